@@ -1,0 +1,14 @@
+//! Who makes an access.
+
+use crate::ids::SourceId;
+
+/// Whose turn an access to the FRAM is.
+#[derive(Clone, Copy, Debug, PartialEq, Eq)]
+pub enum Actor {
+    /// The kernel.
+    Kernel,
+    /// A source of readings.
+    Source(SourceId),
+    /// The clock, which adds one tick.
+    Clock,
+}
