@@ -1,0 +1,3 @@
+pub mod Frames
+pub mod Addresses
+pub mod Accesses

@@ -1,0 +1,5 @@
+pub mod Places
+pub mod Shape
+pub mod Changes
+pub mod Words
+pub mod Accesses
