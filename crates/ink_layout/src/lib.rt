@@ -1,0 +1,11 @@
+//! What the machines of the kernel speak of: where a program's words stand, its first image, and what a step and a scan tell.
+#![tactic(auto)]
+
+mod kernel_point;
+mod pick;
+mod slot_at;
+
+pub use fram_words::{Layout, QueuePlace, ThreadPlace};
+pub use kernel_point::KernelPoint;
+pub use pick::Pick;
+pub use slot_at::SlotAt;
