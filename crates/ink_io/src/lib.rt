@@ -1,0 +1,18 @@
+//! Where the bytes of a job come from and where the bytes of a text go.
+//!
+//! A [`Source`] gives bytes and a [`Sink`] takes them, a piece at each call. Both count their failed calls, so
+//! that a fault is answered only where the outside had one. [`read_job`] and [`write_all_text`] are generic over them.
+#![tactic(auto)]
+
+mod answers;
+mod sink;
+mod source;
+mod standard;
+mod whole;
+
+
+pub use answers::{Failed, NoMemory, ReadAnswer, WriteFault};
+pub use sink::Sink;
+pub use source::Source;
+pub use standard::{StdSink, StdSource};
+pub use whole::{JOB_LIMIT, read_job, write_all_text};
