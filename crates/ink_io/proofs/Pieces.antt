@@ -1,6 +1,6 @@
 -- One piece after another.
-use Rattle.std.proofs.Common.{◌≡◌, ℕ, zero, suc, zero-add, suc-add, [], ◌∷◌, ◌+◌, ◌≤◌, List, ◌++◌, length, take, drop, sym, ap, ◌∙◌, arith}
-use Rattle.std.proofs.lemmas.List.{take_all, take-append-drop, drop-drop, take_at, length-take, length-drop}
+use Rattle.std.proofs.Common.{◌≡◌, ℕ, zero, suc, zero-add, suc-add, [], ◌∷◌, ◌+◌, List, ◌++◌, take, drop, sym, ap, ◌∙◌, arith}
+use Rattle.std.proofs.lemmas.List.{take_all}
 
 -- a longer front of a text
 pub take-more : (n m : ℕ) (xs : List ℕ) → take n xs ++ take m (drop n xs) ≡ take (n + m) xs

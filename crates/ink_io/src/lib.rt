@@ -5,14 +5,19 @@
 #![tactic(auto)]
 
 mod answers;
+mod calls;
+mod memory;
 mod sink;
 mod source;
 mod standard;
+mod sure;
+mod unread;
 mod whole;
 
-
 pub use answers::{Failed, NoMemory, ReadAnswer, WriteFault};
+pub use memory::{MemSink, MemSource};
 pub use sink::Sink;
 pub use source::Source;
 pub use standard::{StdSink, StdSource};
+pub use sure::{SureSink, SureSource};
 pub use whole::{JOB_LIMIT, read_job, write_all_text};
