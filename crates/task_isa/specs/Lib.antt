@@ -1,1 +1,3 @@
 pub mod Names
+pub mod Acts
+pub mod Meaning

@@ -4,11 +4,21 @@
 mod instr;
 mod lines;
 mod name;
+mod outcome;
 mod program;
 mod reg;
+mod sent;
+mod task_end;
+mod task_start;
+mod timer_set;
 
 pub use instr::Instr;
 pub use lines::Lines;
 pub use name::Name;
+pub use outcome::{Outcome, TrapCode};
 pub use program::{PipeDef, Program, Task, ThreadDef, TimerDef};
 pub use reg::Reg;
+pub use sent::Sent;
+pub use task_end::TaskEnd;
+pub use task_start::TaskStart;
+pub use timer_set::TimerSet;

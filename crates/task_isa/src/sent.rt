@@ -1,0 +1,10 @@
+//! What a task sends.
+
+use ink_base::PipeId;
+
+/// A value that a task sends to a pipe.
+#[derive(Clone, Copy, Debug, PartialEq, Eq)]
+pub struct Sent {
+    pub pipe: PipeId,
+    pub value: u32,
+}
