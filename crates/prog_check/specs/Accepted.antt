@@ -1,0 +1,96 @@
+-- What an accepted program keeps: its counts and numbers are within the limits, and its ids and targets are right.
+use Rattle.std.specs.Prelude.{◌≡◌, ◌≢◌, ℕ, ◌-◌, ◌<◌, ◌≤◌, ◌^◌, Bool, true, false, IsTrue, length}
+use Rattle.std.specs.Option.{ForSome, ForNone}
+use Rattle.task_isa.specs.declared.instr.Instr.{Instr}
+use Rattle.task_isa.specs.declared.instr.Instr.TheVariants.{Jmp, Jz, Jnz, Send, Arm, Stop, Next, Done}
+use Rattle.task_isa.specs.declared.program.ThreadDef.{ThreadDef}
+use Rattle.task_isa.specs.declared.program.PipeDef.{PipeDef}
+use Rattle.task_isa.specs.declared.program.TimerDef.{TimerDef}
+use Rattle.task_isa.specs.declared.program.Task.{Task}
+use Rattle.task_isa.specs.declared.program.Program.{Program}
+use Rattle.prog_check.specs.Lookup.{thread_def, source_thread, pipe_def, timer_def, task_def, instr_at, first_task, code_len}
+
+-- how many declarations of each kind there are, and how many instructions
+pub record HasCounts (program : Program) : Type 0 where
+  pub threads_least : 1 ≤ length program.threads
+  pub threads : length program.threads ≤ 16
+  pub sources : length program.sources ≤ 16
+  pub pipes : length program.pipes ≤ 8
+  pub timers : length program.timers ≤ 8
+  pub tasks : length program.tasks ≤ 256
+  pub code : code_len program ≤ 4096
+
+-- the numbers of a thread are within their limits
+pub record IsRightThread (thread : ThreadDef) : Type 0 where
+  pub priority : thread.priority < 256
+  pub queue_least : 2 ≤ thread.queue
+  pub queue : thread.queue ≤ 32
+  pub state : thread.state ≤ 256
+  pub log_least : 1 ≤ thread.log
+  pub log : thread.log ≤ 4096
+  pub expires : ForSome thread.expires (λ ticks. ticks < 2 ^ 31)
+
+-- a pipe has places, and goes from one thread to another
+pub record IsRightPipe (program : Program) (pipe : PipeDef) : Type 0 where
+  pub places_least : 1 ≤ pipe.places
+  pub places : pipe.places ≤ 64
+  pub writer : pipe.writer.0 < length program.threads
+  pub reader : pipe.reader.0 < length program.threads
+  pub other : pipe.writer.0 ≢ pipe.reader.0
+
+-- a timer is of a thread, and has no period where it is off
+pub record IsRightTimer (program : Program) (timer : TimerDef) : Type 0 where
+  pub thread : timer.thread.0 < length program.threads
+  pub due : ForSome timer.due (λ tick. tick < 2 ^ 31)
+  pub period : timer.period < 2 ^ 31
+  pub off : ForNone timer.due (timer.period ≡ 0)
+
+-- a jump stays in the task; a pipe is written, a timer set and a task named by the thread that it belongs to
+abbrev pub IsRightInstr : Program → Task → Instr → Type 0
+IsRightInstr program task (Jmp i) = i < length task.code
+IsRightInstr program task (Jz a i) = i < length task.code
+IsRightInstr program task (Jnz a i) = i < length task.code
+IsRightInstr program task (Send i a b) = (i < length program.pipes) × ((pipe_def program i).writer.0 ≡ task.thread.0)
+IsRightInstr program task (Arm i a b) = (i < length program.timers) × ((timer_def program i).thread.0 ≡ task.thread.0)
+IsRightInstr program task (Stop i) = (i < length program.timers) × ((timer_def program i).thread.0 ≡ task.thread.0)
+IsRightInstr program task (Next i) = (i < length program.tasks) × ((task_def program i).thread.0 ≡ task.thread.0)
+IsRightInstr program task _ = Unit {0}
+
+-- an instruction behind which no other one of its task follows at once
+abbrev pub ends_code : Instr → Bool
+ends_code (Jmp i) = true
+ends_code (Next i) = true
+ends_code Done = true
+ends_code _ = false
+
+-- a task is of a thread, and its instructions are right
+pub record IsRightTask (program : Program) (task : Task) : Type 0 where
+  pub thread : task.thread.0 < length program.threads
+  pub limit_least : 1 ≤ task.limit
+  pub limit : task.limit ≤ 4096
+  pub code : 0 < length task.code
+  pub ends : IsTrue (ends_code (instr_at task (length task.code - 1)))
+  pub instrs : (n : ℕ) → n < length task.code → IsRightInstr program task (instr_at task n)
+
+-- no two numbers below a count have one key
+abbrev pub AreDistinct : {K : Type 0} → (ℕ → K) → ℕ → Type 0
+AreDistinct key count = (i k : ℕ) → i < k → k < count → key i ≢ key k
+
+-- names are distinct among the declarations of one kind, and priorities among threads
+pub record HasDistinct (program : Program) : Type 0 where
+  pub priorities : AreDistinct (λ t. (thread_def program t).priority) (length program.threads)
+  pub threads : AreDistinct (λ t. (thread_def program t).name) (length program.threads)
+  pub pipes : AreDistinct (λ q. (pipe_def program q).name) (length program.pipes)
+  pub timers : AreDistinct (λ j. (timer_def program j).name) (length program.timers)
+  pub tasks : AreDistinct (λ x. (task_def program x).name) (length program.tasks)
+
+pub record IsAccepted (program : Program) : Type 0 where
+  pub counts : HasCounts program
+  pub distinct : HasDistinct program
+  pub threads : (t : ℕ) → t < length program.threads → IsRightThread (thread_def program t)
+  pub sources : (i : ℕ) → i < length program.sources → source_thread program i < length program.threads
+  pub pipes : (q : ℕ) → q < length program.pipes → IsRightPipe program (pipe_def program q)
+  pub timers : (j : ℕ) → j < length program.timers → IsRightTimer program (timer_def program j)
+  pub tasks : (x : ℕ) → x < length program.tasks → IsRightTask program (task_def program x)
+  -- every thread has a task
+  pub served : (t : ℕ) → t < length program.threads → first_task program t < length program.tasks
