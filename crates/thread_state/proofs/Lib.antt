@@ -1,0 +1,4 @@
+pub mod Pages
+pub mod Masks
+pub mod Calls
+pub mod Sixteen

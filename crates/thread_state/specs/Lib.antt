@@ -1,0 +1,4 @@
+pub mod Pages
+pub mod Blocks
+pub mod Writes
+pub mod Calls
