@@ -1,0 +1,16 @@
+pub mod Changes
+pub mod Slots
+pub mod Rings
+pub mod Numbers
+pub mod Queues
+pub mod Sources
+pub mod Drifts
+pub mod Own
+pub mod Counts
+pub mod Frames
+pub mod Nears
+pub mod Moves
+pub mod Steps
+pub mod Runs
+pub mod Looks
+pub mod Ports

@@ -1,0 +1,76 @@
+-- What every access of every source, every release and every cut keeps.
+use Rattle.std.specs.Prelude.{◌≡◌, ℕ, zero, suc, ◌+◌, ◌^◌, ◌<◌, ◌≤◌, ◌==◌, length, slice_index, if◌then◌else◌}
+use Rattle.source_laws.specs.QueueEvent.{QueueEvent}
+use Rattle.fram_words.specs.Places.{Place, Tail, Ack, Src}
+use Rattle.fram_words.specs.Places as places
+use Rattle.source_laws.specs.Model.{places_of, Board, Queue, Source, Model, published}
+use Rattle.source_laws.specs.Stands.{StandsQueue, StandsSource, Tells, event_at}
+use Rattle.push_core.specs.declared.row.Row.{Row}
+use Rattle.source_laws.specs.Knows.{Knows}
+
+-- at most 16 sources, 65,535 readings of each, 32 bits in a reading, and from 1 to 32 places in a source's queue
+pub record IsWithin (board : Board) : Type 0 where
+  pub sources : board.shape.sources ≤ 16
+  pub readings : (i : ℕ) → length (board.readings i) ≤ 65535
+  pub values : (i k : ℕ) → slice_index (board.readings i) k < 2 ^ 32
+  pub places : (i : ℕ) → i < board.shape.sources → 0 < places_of board (board.queue_of i)
+  pub no_more : (t : ℕ) → places_of board t ≤ 32
+
+-- the words, what they stand for, and where each source is in its table
+pub record State : Type 0 where
+  pub word : Place → ℕ
+  pub model : Model
+  pub row : ℕ → Row
+
+-- the number of events that the first n sources had accepted into queue t
+abbrev pub accepted_into : Board → (ℕ → Source) → ℕ → ℕ → ℕ
+accepted_into board source t zero = 0
+accepted_into board source t (suc n) = (if board.queue_of n == t then (source n).accepted else 0) + accepted_into board source t n
+
+-- an event of queue t
+pub record IsEvent (board : Board) (t : ℕ) (e : QueueEvent) : Type 0 where
+  pub source : e.source < board.shape.sources
+  pub queue : board.queue_of e.source ≡ t
+  pub count : e.count < 64
+  pub value : e.value < 2 ^ 32
+
+-- the part of one queue
+abbrev pub QueueKept : Board → State → ℕ → Type 0
+QueueKept board x t = StandsQueue (places_of board t) (λ n. x.word (places.Slot t n)) (x.word (Tail t)) (x.model.queue t)
+
+-- its events are those that its sources had accepted
+pub record EventsKept (board : Board) (queue : ℕ → Queue) (source : ℕ → Source) (t : ℕ) : Type 0 where
+  pub events : (k : ℕ) → k < length (queue t).held → IsEvent board t (event_at (queue t).held k)
+  pub number : published (queue t) ≡ accepted_into board source t board.shape.sources
+
+-- readings are settled in order
+pub record IsOrdered (readings : ℕ) (s : Source) : Type 0 where
+  pub accepted : s.accepted ≤ s.next
+  pub next : s.next ≤ readings
+
+-- what source i can see of the board
+pub record Near : Type 0 where
+  pub tail : ℕ
+  pub src : ℕ
+  pub ack : ℕ
+  pub queue : Queue
+  pub source : Source
+
+abbrev pub near : Board → State → ℕ → Near
+near board x i = record { tail = x.word (Tail (board.queue_of i)); src = x.word (Src i); ack = x.word (Ack i); queue = x.model.queue (board.queue_of i); source = x.model.source i }
+
+-- the part of one source, at a row of its table
+pub record SourceKept (i places readings : ℕ) (n : Near) (row : Row) : Type 0 where
+  pub stands : StandsSource i n.src n.ack n.queue n.source
+  pub ordered : IsOrdered readings n.source
+  pub knows : Knows i places readings n.tail n.src n.ack n.queue n.source row
+
+pub record Kept (board : Board) (x : State) : Type 0 where
+  pub queues : (t : ℕ) → QueueKept board x t
+  pub events : (t : ℕ) → EventsKept board x.model.queue x.model.source t
+  pub sources : (i : ℕ) → SourceKept i (places_of board (board.queue_of i)) (length (board.readings i)) (near board x i) (x.row i)
+
+-- the words of queues and sources stand for those of the never-cut kernel
+pub record Stands (board : Board) (x : State) : Type 0 where
+  pub queues : (t : ℕ) → QueueKept board x t
+  pub sources : (i : ℕ) → i < board.shape.sources → Tells i (x.word (Src i)) (x.word (Ack i)) (x.model.queue (board.queue_of i)) (x.model.source i)

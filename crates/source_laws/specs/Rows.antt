@@ -1,0 +1,62 @@
+-- The access table of a source over places: in each row one access. The row that follows is that of the machine.
+use Rattle.std.specs.Prelude.{ℕ, ◌+◌, ◌%◌, length, Option, Some, None}
+use Rattle.push_core.specs.Table.{src_word, take_of, point_of}
+use Rattle.push_core.specs.declared.port.Port.{Port}
+use Rattle.push_core.specs.declared.row.Row.{Row}
+use Rattle.push_core.specs.declared.stage.Stage.{Stage}
+use Rattle.push_core.specs.declared.stage.Stage.TheVariants.{LoadSrc, LoadSlots, LoadAck, LoadTail, LoadSlot, Publish, MoveTail, HelpTail, StoreSkip, StoreAccepted}
+use Rattle.push_core.specs.declared.point.Point.{Point}
+use Rattle.push_core.specs.declared.point.Point.TheVariants as points
+use Rattle.source_laws.specs.Slots.{full, empty, source_id}
+use Rattle.fram_words.specs.Places.{Place, Tail, Ack, Src, Access, Load, Store, Exchange, place_of}
+use Rattle.fram_words.specs.Shape.{address}
+use Rattle.fram_words.specs.Places as places
+use Rattle.source_laws.specs.Model.{Board, Entry, Push, Refuse, Skip, event_of, places_of}
+
+-- the slot of a position in the queue of source i
+abbrev pub slot_place : Board → ℕ → ℕ → Place
+slot_place board i p = places.Slot (board.queue_of i) (p % places_of board (board.queue_of i))
+
+-- the access of each row
+abbrev pub access_at : Board → (i a k : ℕ) → Stage → Access
+access_at board i a k LoadSrc = Load (Src i)
+access_at board i a k (LoadSlots n seen) = Load (places.Slot (board.queue_of i) n)
+access_at board i a k (LoadAck seen) = Load (Ack i)
+access_at board i a k LoadTail = Load (Tail (board.queue_of i))
+access_at board i a k (LoadSlot p) = Load (slot_place board i p)
+access_at board i a k (Publish p) = Exchange (slot_place board i p) (empty p) (full p (event_of board i a k))
+access_at board i a k (MoveTail p) = Exchange (Tail (board.queue_of i)) p (p + 1)
+access_at board i a k (HelpTail p) = Exchange (Tail (board.queue_of i)) p (p + 1)
+access_at board i a k StoreSkip = Store (Src i) (src_word a (k + 1))
+access_at board i a k StoreAccepted = Store (Src i) (src_word (a + 1) (k + 1))
+
+abbrev pub access : Board → ℕ → Row → Access
+access board i row = access_at board i row.accepted row.next row.stage
+
+-- where the words of source i stand
+abbrev pub port_of : Board → ℕ → Port
+port_of board i = record {
+  source = source_id i;
+  queue = record { tail = address board.shape (Tail (board.queue_of i)); slots = address board.shape (places.Slot (board.queue_of i) 0); places = places_of board (board.queue_of i) };
+  ack = address board.shape (Ack i);
+  src = address board.shape (Src i);
+}
+
+-- the row that follows where the access found this word
+abbrev pub take : Board → ℕ → Row → ℕ → Row
+take board i row word = take_of (port_of board i) (length (board.readings i)) row word
+
+-- the entry that a point of source i stands for
+abbrev pub entry_of : ℕ → Point → Option Entry
+entry_of i points.Nothing = None
+entry_of i points.Pushed = Some (Push i)
+entry_of i points.Refused = Some (Refuse i)
+entry_of i points.Skipped = Some (Skip i)
+
+-- the entry that the access adds to the journal
+abbrev pub entry : Board → ℕ → Row → ℕ → Option Entry
+entry board i row word = entry_of i (point_of (places_of board (board.queue_of i)) row.stage word)
+
+-- the word that the access of the row finds
+abbrev pub found : Board → (Place → ℕ) → ℕ → Row → ℕ
+found board word i row = word (place_of (access board i row))

@@ -1,0 +1,62 @@
+-- The steps of a board, as far as its queues and sources go.
+use Rattle.std.specs.Prelude.{◌≡◌, ◌⊎◌, ℕ, suc, ◌+◌, ◌%◌, ◌<◌, true, false, [], length, Option, Some, None}
+use Rattle.fram_words.specs.Changes.{Becomes}
+use Rattle.fram_words.specs.Accesses.{Makes}
+use Rattle.source_laws.specs.Slots.{empty}
+use Rattle.fram_words.specs.Places.{Place, Tail, Ack, Src, IsShared}
+use Rattle.fram_words.specs.Places as places
+use Rattle.source_laws.specs.Model.{places_of, Board, Model, Entry, Finish, Release, IsLegal, Follows}
+use Rattle.source_laws.specs.Stands.{event_at}
+use Rattle.push_core.specs.Table.{IsLeft, first_row}
+use Rattle.source_laws.specs.Rows.{access, take, entry, found}
+use Rattle.source_laws.specs.Kept.{State}
+
+-- the entry, if there is one, may be made
+abbrev pub MayAdd : Board → Option Entry → Model → Type 0
+MayAdd board None m = Unit {0}
+MayAdd board (Some e) m = IsLegal board m e
+
+-- and is made
+abbrev pub Adds : Board → Option Entry → Model → Model → Type 0
+Adds board None old new = new ≡ old
+Adds board (Some e) old new = Follows board e old new
+
+-- source i makes the access of its row
+pub record SourceStep (board : Board) (i : ℕ) (x y : State) : Type 0 where
+  pub left : IsLeft (length (board.readings i)) (x.row i)
+  pub word : Makes (access board i (x.row i)) x.word y.word
+  pub row : Becomes i (take board i (x.row i) (found board x.word i (x.row i))) x.row y.row
+  pub model : Adds board (entry board i (x.row i) (found board x.word i (x.row i))) x.model y.model
+
+-- the first event of queue t is finished and still held
+pub record HasFinished (t : ℕ) (m : Model) : Type 0 where
+  pub finished : (m.queue t).finished ≡ true
+  pub some : 0 < length (m.queue t).held
+
+-- the steps of the others that matter to queues and sources
+pub data Step (board : Board) (x y : State) : Type 0 where
+  Source : (i : ℕ) → i < board.shape.sources → SourceStep board i x y → Step board x y
+  -- a commit finishes the first event of queue t; it stores a private word
+  Commit : (t : ℕ) → IsLegal board x.model (Finish t) → ((p : Place) → IsShared p → y.word p ≡ x.word p) → Follows board (Finish t) x.model y.model → y.row ≡ x.row → Step board x y
+  -- the kernel stores ACK of the finished event's source
+  Acknowledge : (t : ℕ) → HasFinished t x.model → Becomes (Ack (event_at (x.model.queue t).held 0).source) (suc (event_at (x.model.queue t).held 0).count % 64) x.word y.word → y.model ≡ x.model → y.row ≡ x.row → Step board x y
+  -- and then the empty slot
+  Empties : (t : ℕ) → HasFinished t x.model → x.word (Ack (event_at (x.model.queue t).held 0).source) ≡ suc (event_at (x.model.queue t).held 0).count % 64
+      → Becomes (places.Slot t ((x.model.queue t).released % places_of board t)) (empty ((x.model.queue t).released + places_of board t)) x.word y.word → Follows board (Release t) x.model y.model → y.row ≡ x.row → Step board x y
+  -- any other access of the kernel or the clock, or a cut, after which each source begins at its first row
+  Apart : ((p : Place) → IsShared p → y.word p ≡ x.word p) → y.model ≡ x.model → ((i : ℕ) → (y.row i ≡ x.row i) ⊎ (y.row i ≡ first_row)) → Step board x y
+
+-- the first image, nothing accepted, and each source at its first row
+pub record IsFirst (board : Board) (x : State) : Type 0 where
+  pub slots : (t n : ℕ) → n < places_of board t → x.word (places.Slot t n) ≡ empty n
+  pub tails : (t : ℕ) → x.word (Tail t) ≡ 0
+  pub acks : (i : ℕ) → x.word (Ack i) ≡ 0
+  pub srcs : (i : ℕ) → x.word (Src i) ≡ 0
+  pub queues : (t : ℕ) → x.model.queue t ≡ record { held = []; finished = false; released = 0 }
+  pub sources : (i : ℕ) → x.model.source i ≡ record { next = 0; accepted = 0; refused = false }
+  pub rows : (i : ℕ) → x.row i ≡ first_row
+
+-- any order of accesses and cuts, from the first image on
+pub record IsRun (board : Board) (at : ℕ → State) : Type 0 where
+  pub first : IsFirst board (at 0)
+  pub steps : (n : ℕ) → Step board (at n) (at (suc n))
