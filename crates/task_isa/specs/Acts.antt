@@ -5,8 +5,9 @@ use Rattle.ink_base.specs.declared.event.Origin as events
 use Rattle.ink_base.specs.declared.event.Origin.TheVariants as origins
 use Rattle.task_isa.specs.declared.instr.Instr.{Instr}
 use Rattle.task_isa.specs.declared.instr.Instr.TheVariants.{Li, Mov, Add, Sub, Mul, And, Or, Xor, Shl, Shr, Divu, Remu, Ltu, Eq, Jmp, Jz, Jnz, Ev, Kind, Num, Now, Ld, St, Out, Send, Arm, Stop, Next, Done}
-use Rattle.task_isa.specs.declared.outcome.TrapCode.{TrapCode}
 use Rattle.task_isa.specs.declared.outcome.TrapCode.TheVariants.{Divisor}
+use Rattle.task_isa.specs.declared.act.Act.{Act}
+use Rattle.task_isa.specs.declared.act.Act.TheVariants.{Sets, Goes, Loads, Saves, Puts, Sends, Arms, Stops, Continues, Ends, Traps}
 
 -- what the instructions read beside the registers: the event that is served, and the scan's time
 pub record Given : Type 0 where
@@ -17,30 +18,6 @@ pub record Given : Type 0 where
 pub record Cpu : Type 0 where
   pub at : ℕ
   pub registers : List ℕ
-
-pub data Act : Type 0 where
-  -- a register becomes a value, and the next instruction follows
-  Sets : (register value : ℕ) → Act
-  -- the instruction at this offset follows
-  Goes : (offset : ℕ) → Act
-  -- a register becomes a state number
-  Loads : (register index : ℕ) → Act
-  -- a state number becomes a value
-  Saves : (index value : ℕ) → Act
-  -- a value is put out
-  Puts : (value : ℕ) → Act
-  -- a value is sent to a pipe, and a register tells whether there was room
-  Sends : (pipe register value : ℕ) → Act
-  -- a timer is due after a delay, with a period
-  Arms : (timer delay period : ℕ) → Act
-  -- a timer is off
-  Stops : (timer : ℕ) → Act
-  -- the task ends, and the chain goes on with another one
-  Continues : (task : ℕ) → Act
-  -- the task and its service end
-  Ends : Act
-  -- the task traps
-  Traps : (code : TrapCode) → Act
 
 abbrev pub kind_of : events.Origin → ℕ
 kind_of (origins.Source source count) = 1

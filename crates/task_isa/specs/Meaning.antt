@@ -10,7 +10,9 @@ use Rattle.task_isa.specs.declared.sent.Sent.{Sent}
 use Rattle.task_isa.specs.declared.timer_set.TimerSet.{TimerSet}
 use Rattle.task_isa.specs.declared.task_start.TaskStart.{TaskStart}
 use Rattle.task_isa.specs.declared.task_end.TaskEnd.{TaskEnd}
-use Rattle.task_isa.specs.Acts.{Given, Cpu, Act, Sets, Goes, Loads, Saves, Puts, Sends, Arms, Stops, Continues, Ends, Traps, act_of}
+use Rattle.task_isa.specs.declared.act.Act.{Act}
+use Rattle.task_isa.specs.declared.act.Act.TheVariants.{Sets, Goes, Loads, Saves, Puts, Sends, Arms, Stops, Continues, Ends, Traps}
+use Rattle.task_isa.specs.Acts.{Given, Cpu, act_of}
 
 -- what a task has done so far
 pub record Effects : Type 0 where

@@ -1,6 +1,8 @@
 //! Programs and their instructions: what a task program declares, and what one task does.
 #![tactic(auto)]
 
+mod act;
+mod acting;
 mod instr;
 mod lines;
 mod name;
@@ -12,6 +14,8 @@ mod task_end;
 mod task_start;
 mod timer_set;
 
+pub use act::Act;
+pub use acting::act_for;
 pub use instr::Instr;
 pub use lines::Lines;
 pub use name::Name;
