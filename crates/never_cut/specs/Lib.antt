@@ -3,3 +3,8 @@ pub mod Pending
 pub mod Commit
 pub mod Entries
 pub mod Journal
+pub mod Stands
+pub mod Sound
+pub mod Plain
+pub mod Actors
+pub mod Steps

@@ -1,0 +1,86 @@
+-- What holds of every state that a legal journal reaches.
+use Rattle.std.specs.Prelude.{◌≡◌, ℕ, zero, suc, ◌+◌, ◌*◌, ◌%◌, ◌^◌, ◌<◌, ◌≤◌, ◌==◌, true, false, if◌then◌else◌, length, slice_index, Some, None}
+use Rattle.std.specs.Option.{ForSome}
+use Rattle.ink_base.specs.declared.event.Event.{Event}
+use Rattle.ink_base.specs.declared.event.Origin.TheVariants as origins
+use Rattle.task_isa.specs.declared.program.Program.{Program}
+use Rattle.prog_check.specs.Lookup.{thread_def, pipe_def, timer_def, task_def, source_thread}
+use Rattle.never_cut.specs.declared.model.Model.{Model}
+use Rattle.never_cut.specs.State.{thread_of, pipe_of, timer_of, source_of}
+use Rattle.never_cut.specs.Commit.{outputs_of}
+use Rattle.never_cut.specs.Entries.{Readings, readings_of}
+use Rattle.never_cut.specs.Stands.{published, event_at}
+
+-- as many of each part as the program declares
+pub record HasShape (program : Program) (m : Model) : Type 0 where
+  pub threads : length m.threads ≡ length program.threads
+  pub pipes : length m.pipes ≡ length program.pipes
+  pub timers : length m.timers ≡ length program.timers
+  pub sources : length m.sources ≡ length program.sources
+  pub states : (t : ℕ) → t < length program.threads → length (thread_of m t).state ≡ (thread_def program t).state
+
+-- how many events the first so many sources of a thread have had accepted
+abbrev pub accepted_into : Program → Model → ℕ → ℕ → ℕ
+accepted_into program m t zero = 0
+accepted_into program m t (suc i) =
+    accepted_into program m t i + (if source_thread program i == t then (source_of m i).accepted else 0)
+
+-- an event of a source of this thread's queue, within its bits
+abbrev pub IsQueued : Program → ℕ → Event → Type 0
+IsQueued program t e = elim e.origin [
+  | origins.Source source count ↦ (source.0 < length program.sources) × (source_thread program source.0 ≡ t) × (count < 64) × (e.value < 2 ^ 32)
+  | origins.Pipe pipe item ↦ ⊥
+  | origins.Timer timer deadline ↦ ⊥
+]
+
+-- the event of a running chain: the first held one, unfinished; the item that was taken last from a pipe that the thread reads; or of a timer of its own
+abbrev pub IsServed : Program → Model → ℕ → Event → Type 0
+IsServed program m t e = elim e.origin [
+  | origins.Source source count ↦ (0 < length (thread_of m t).held) × (event_at (thread_of m t).held 0 ≡ e)
+  | origins.Pipe pipe item ↦ (pipe.0 < length program.pipes) × ((pipe_def program pipe.0).reader.0 ≡ t) × (item + 1 ≡ (pipe_of m pipe.0).taken) × (e.value < 2 ^ 32)
+  | origins.Timer timer deadline ↦ (timer.0 < length program.timers) × ((timer_def program timer.0).thread.0 ≡ t) × (deadline < 2 ^ 48) × (e.value ≡ deadline % 2 ^ 32)
+]
+
+-- a running chain goes on with a task of its thread, serves its event, and has nothing finished
+pub record IsChain (program : Program) (m : Model) (t task : ℕ) : Type 0 where
+  pub known : task < length program.tasks
+  pub own : (task_def program task).thread.0 ≡ t
+  pub event : Event
+  pub is : (thread_of m t).event ≡ Some event
+  pub served : IsServed program m t event
+  pub unfinished : (thread_of m t).finished ≡ false
+
+pub record IsSoundThread (program : Program) (m : Model) (t : ℕ) : Type 0 where
+  pub published_is : published (thread_of m t) ≡ accepted_into program m t (length program.sources)
+  pub queued : (k : ℕ) → k < length (thread_of m t).held → IsQueued program t (event_at (thread_of m t).held k)
+  pub finished : (thread_of m t).finished ≡ true → (0 < length (thread_of m t).held) × ((thread_of m t).running ≡ None)
+  pub idle : (thread_of m t).running ≡ None → (thread_of m t).event ≡ None
+  pub chain : ForSome (thread_of m t).running (λ task. IsChain program m t task.0)
+  pub outputs : length (outputs_of m t) ≤ (thread_def program t).log
+  pub first : (thread_of m t).first ≤ m.clock
+  pub totals : (thread_of m t).served + (thread_of m t).trapped + (thread_of m t).expired ≤ m.commits
+  pub state : (n : ℕ) → slice_index (thread_of m t).state n < 2 ^ 32
+
+pub record IsSoundPipe (program : Program) (m : Model) (q : ℕ) : Type 0 where
+  pub room : length (pipe_of m q).items ≤ (pipe_def program q).places
+  pub values : (k : ℕ) → slice_index (pipe_of m q).items k < 2 ^ 32
+  -- a commit sends less than 2^12 items
+  pub few : (pipe_of m q).taken + length (pipe_of m q).items ≤ m.commits * 2 ^ 12
+
+pub record IsSoundTimer (m : Model) (j : ℕ) : Type 0 where
+  pub due : ForSome (timer_of m j).due (λ due. due < 2 ^ 48)
+  pub period : (timer_of m j).period < 2 ^ 32
+
+-- accepted readings are settled, and settled ones are there; a refused one is there
+pub record IsSoundSource (readings : Readings) (m : Model) (i : ℕ) : Type 0 where
+  pub ordered : (source_of m i).accepted ≤ (source_of m i).next
+  pub within : (source_of m i).next ≤ length (readings_of readings i)
+  pub refused : (source_of m i).refused ≡ true → (source_of m i).next < length (readings_of readings i)
+
+pub record IsSound (program : Program) (readings : Readings) (m : Model) : Type 0 where
+  pub shape : HasShape program m
+  pub threads : (t : ℕ) → t < length program.threads → IsSoundThread program m t
+  pub pipes : (q : ℕ) → q < length program.pipes → IsSoundPipe program m q
+  pub timers : (j : ℕ) → j < length program.timers → IsSoundTimer m j
+  pub sources : (i : ℕ) → i < length program.sources → IsSoundSource readings m i
+  pub scan : ForSome m.scan (λ scan. scan.time ≤ m.clock)

@@ -1,0 +1,183 @@
+-- When the words of a board stand for a state.
+use Rattle.std.specs.Prelude.{◌≡◌, ◌⊎◌, ℕ, ◌+◌, ◌*◌, ◌/◌, ◌%◌, ◌^◌, ◌<◌, ◌≤◌, ◌==◌, ◌&&◌, nat_lt, Bool, if◌then◌else◌, List, [], ◌∷◌, ◌++◌, length, map, replicate, slice_index, slice_index_or, Option, Some, None}
+use Rattle.std.specs.Option.{ForSome}
+use Rattle.ink_base.specs.declared.ids.TaskId.{TaskId}
+use Rattle.ink_base.specs.declared.event.Event.{Event}
+use Rattle.ink_base.specs.declared.event.Origin.{Origin}
+use Rattle.ink_base.specs.declared.event.Origin.TheVariants as origins
+use Rattle.ink_base.specs.declared.output.Output.{Output}
+use Rattle.task_isa.specs.declared.program.Program.{Program}
+use Rattle.task_isa.specs.Code.{word_of_instr}
+use Rattle.fram_words.specs.Places.{Memory, Code, Log, Ring, Tail, Slot, Ack, Clock, Src}
+use Rattle.thread_state.specs.Pages.{committed}
+use Rattle.push_core.specs.Slots.{full_word, empty_word}
+use Rattle.prog_check.specs.Lookup.{thread_def, pipe_def, timer_def, task_def, instr_at, source_thread}
+use Rattle.never_cut.specs.declared.model.Model.{Model}
+use Rattle.never_cut.specs.declared.thread_model.ThreadModel.{ThreadModel}
+use Rattle.never_cut.specs.declared.source_model.SourceModel.{SourceModel}
+use Rattle.never_cut.specs.State.{thread_of, pipe_of, timer_of, source_of}
+use Rattle.never_cut.specs.Commit.{outputs_of}
+
+abbrev pub flag : Bool → ℕ
+flag b = if b then 1 else 0
+
+-- 0 for idle, else 1 plus the task that the chain goes on with
+abbrev pub next_word : Option TaskId → ℕ
+next_word None = 0
+next_word (Some task) = task.0 + 1
+
+abbrev pub origin_word : Origin → ℕ
+origin_word (origins.Source source count) = 1 * 2 ^ 56 + source.0 * 2 ^ 16 + count
+origin_word (origins.Pipe pipe item) = 2 * 2 ^ 56 + pipe.0 * 2 ^ 32 + item
+origin_word (origins.Timer timer deadline) = 3 * 2 ^ 56 + timer.0 * 2 ^ 48 + deadline
+
+-- 0 for off, else the tick at which a timer is due, plus 1
+abbrev pub due_word : Option ℕ → ℕ
+due_word None = 0
+due_word (Some due) = due + 1
+
+-- the items that were sent to a pipe, in the block of its writer, and those that were taken, in that of its reader
+abbrev pub written_word : Program → Model → ℕ → ℕ → ℕ
+written_word program m t q = if nat_lt q (length program.pipes) && ((pipe_def program q).writer.0 == t) then (pipe_of m q).taken + length (pipe_of m q).items else 0
+
+abbrev pub taken_word : Program → Model → ℕ → ℕ → ℕ
+taken_word program m t q = if nat_lt q (length program.pipes) && ((pipe_def program q).reader.0 == t) then (pipe_of m q).taken else 0
+
+-- a timer's word and its period, in the block of its thread
+abbrev pub timer_word : Program → Model → ℕ → ℕ → ℕ
+timer_word program m t j = if nat_lt j (length program.timers) && ((timer_def program j).thread.0 == t) then due_word (timer_of m j).due else 0
+
+abbrev pub period_word : Program → Model → ℕ → ℕ → ℕ
+period_word program m t j = if nat_lt j (length program.timers) && ((timer_def program j).thread.0 == t) then (timer_of m j).period else 0
+
+-- what a thread's own words say of it: nothing that another thread or a source changes
+pub record Saved : Type 0 where
+  pub state : List ℕ
+  pub running : Option TaskId
+  pub first : ℕ
+  -- the number of its queue's events that were finished
+  pub ended : ℕ
+  pub served : ℕ
+  pub trapped : ℕ
+  pub expired : ℕ
+  pub outputs : List Output
+  pub written : ℕ → ℕ
+  pub taken : ℕ → ℕ
+  pub due : ℕ → ℕ
+  pub period : ℕ → ℕ
+
+abbrev pub saved : Program → Model → ℕ → Saved
+saved program m t =
+    record {
+      state = (thread_of m t).state;
+      running = (thread_of m t).running;
+      first = (thread_of m t).first;
+      ended = (thread_of m t).released + flag (thread_of m t).finished;
+      served = (thread_of m t).served;
+      trapped = (thread_of m t).trapped;
+      expired = (thread_of m t).expired;
+      outputs = outputs_of m t;
+      written = written_word program m t;
+      taken = taken_word program m t;
+      due = timer_word program m t;
+      period = period_word program m t;
+    }
+
+-- the words of a block: the header, and the state behind it. The stamp, and while the thread is idle the origin and the value, are not the state's.
+unfoldable pub thread_words : Saved → ℕ → ℕ → ℕ → List ℕ
+thread_words y stamp origin value =
+    stamp ∷ next_word y.running ∷ y.first ∷ origin ∷ value ∷ y.ended ∷ y.served ∷ y.trapped ∷ y.expired ∷ length y.outputs
+    ∷ y.written 0 ∷ y.written 1 ∷ y.written 2 ∷ y.written 3 ∷ y.written 4 ∷ y.written 5 ∷ y.written 6 ∷ y.written 7
+    ∷ y.taken 0 ∷ y.taken 1 ∷ y.taken 2 ∷ y.taken 3 ∷ y.taken 4 ∷ y.taken 5 ∷ y.taken 6 ∷ y.taken 7
+    ∷ y.due 0 ∷ y.period 0 ∷ y.due 1 ∷ y.period 1 ∷ y.due 2 ∷ y.period 2 ∷ y.due 3 ∷ y.period 3
+    ∷ y.due 4 ∷ y.period 4 ∷ y.due 5 ∷ y.period 5 ∷ y.due 6 ∷ y.period 6 ∷ y.due 7 ∷ y.period 7
+    ∷ 0 ∷ 0 ∷ 0 ∷ 0 ∷ 0 ∷ 0 ∷ y.state
+
+abbrev pub output_word : Output → ℕ
+output_word o = o.stamp * 2 ^ 32 + o.value
+
+-- the log of a thread
+abbrev pub log_of : Memory → ℕ → ℕ → ℕ
+log_of words t n = words (Log t n)
+
+-- the outputs stand in a log, in order
+abbrev pub AreLogged : (ℕ → ℕ) → List Output → Type 0
+AreLogged log outputs = (n : ℕ) → n < length outputs → log n ≡ slice_index (map output_word outputs) n
+
+-- the committed copy of a thread's block reads as the thread, with its event where a chain runs, and its log holds its outputs
+pub record StandsThread (words : Memory) (program : Program) (m : Model) (t : ℕ) : Type 0 where
+  pub stamp : ℕ
+  pub origin : ℕ
+  pub value : ℕ
+  pub block : (w : ℕ) → committed words t w ≡ slice_index (thread_words (saved program m t) stamp origin value) w
+  pub event : ForSome (thread_of m t).event (λ e. (origin ≡ origin_word e.origin) × (value ≡ e.value))
+  pub log : AreLogged (log_of words t) (outputs_of m t)
+
+-- the items of a pipe stand in its ring
+abbrev pub StandsPipe : Memory → Program → Model → ℕ → Type 0
+StandsPipe words program m q =
+    (k : ℕ) → k < length (pipe_of m q).items → words (Ring q (((pipe_of m q).taken + k) % (pipe_def program q).places)) ≡ slice_index (pipe_of m q).items k
+
+-- the private words: code, blocks, logs and rings; the newest stamp is the number of commits
+pub record StandsPrivate (words : Memory) (program : Program) (m : Model) : Type 0 where
+  pub code : (x n : ℕ) → x < length program.tasks → n < length (task_def program x).code → words (Code x n) ≡ word_of_instr (instr_at (task_def program x) n)
+  pub threads : (t : ℕ) → t < length program.threads → StandsThread words program m t
+  pub stamps : (t : ℕ) → t < length program.threads → committed words t 0 ≤ m.commits
+  pub newest : (m.commits ≡ 0) ⊎ ((t : ℕ) × (t < length program.threads) × (committed words t 0 ≡ m.commits))
+  pub pipes : (q : ℕ) → q < length program.pipes → StandsPipe words program m q
+
+-- the word of an event of a queue at a position
+abbrev pub event_word : ℕ → Event → ℕ
+event_word position e = elim e.origin [
+  | origins.Source source count ↦ full_word position source count e.value
+  | origins.Pipe pipe item ↦ 0
+  | origins.Timer timer deadline ↦ 0
+]
+
+abbrev pub no_event : Event
+no_event = record { origin = origins.Source (record { 0 = 0 }) 0; value = 0 }
+
+abbrev pub event_at : List Event → ℕ → Event
+event_at held k = slice_index_or held k no_event
+
+-- the number of events that a queue has published
+abbrev pub published : ThreadModel → ℕ
+published x = x.released + length x.held
+
+-- the slots of a queue hold its events and are empty otherwise; its tail is the number of published events, or one behind
+pub record StandsQueue (places : ℕ) (slot : ℕ → ℕ) (tail : ℕ) (x : ThreadModel) : Type 0 where
+  pub room : length x.held ≤ places
+  pub full : (k : ℕ) → k < length x.held → slot ((x.released + k) % places) ≡ event_word (x.released + k) (event_at x.held k)
+  pub free : (s : ℕ) → published x ≤ s → s < x.released + places → slot (s % places) ≡ empty_word s
+  pub tail_near : (tail ≡ published x) ⊎ (tail + 1 ≡ published x)
+
+abbrev pub slots_of : Memory → ℕ → ℕ → ℕ
+slots_of words t n = words (Slot t n)
+
+-- an event of source i whose count is that of number a is held
+abbrev pub is_event_of : ℕ → ℕ → Event → Bool
+is_event_of i a e = elim e.origin [
+  | origins.Source source count ↦ (source.0 == i) && (count == a % 64)
+  | origins.Pipe pipe item ↦ Rattle.std.specs.Prelude.false
+  | origins.Timer timer deadline ↦ Rattle.std.specs.Prelude.false
+]
+
+abbrev pub Holds : ℕ → ℕ → List Event → Type 0
+Holds i a held = (k : ℕ) × (k < length held) × (is_event_of i a (event_at held k) ≡ Rattle.std.specs.Prelude.true)
+
+-- what a source's words, SRC and ACK, and the events of its queue tell of it: where a held event has the count of the number in SRC, or ACK is one
+-- above that count, one reading more is accepted and settled than SRC says; else as many as it says
+pub record StandsSource (i src ack : ℕ) (held : List Event) (s : SourceModel) : Type 0 where
+  pub one_more : Holds i (src % 2 ^ 32) held ⊎ (ack ≡ (src % 2 ^ 32 + 1) % 64) → (s.accepted ≡ src % 2 ^ 32 + 1) × (s.next ≡ src / 2 ^ 32 + 1)
+  pub as_many : (Holds i (src % 2 ^ 32) held ⊎ (ack ≡ (src % 2 ^ 32 + 1) % 64) → ⊥) → (s.accepted ≡ src % 2 ^ 32) × (s.next ≡ src / 2 ^ 32)
+
+-- the shared words: queues, clock and sources
+pub record StandsShared (words : Memory) (program : Program) (m : Model) : Type 0 where
+  pub queues : (t : ℕ) → t < length program.threads → StandsQueue (thread_def program t).queue (slots_of words t) (words (Tail t)) (thread_of m t)
+  pub clock : words Clock ≡ m.clock
+  pub sources : (i : ℕ) → i < length program.sources → StandsSource i (words (Src i)) (words (Ack i)) (thread_of m (source_thread program i)).held (source_of m i)
+
+-- the words of a board stand for a state
+pub record Stands (words : Memory) (program : Program) (m : Model) : Type 0 where
+  pub private : StandsPrivate words program m
+  pub shared : StandsShared words program m
