@@ -8,3 +8,4 @@ pub mod Sound
 pub mod Plain
 pub mod Actors
 pub mod Steps
+pub mod Picked
