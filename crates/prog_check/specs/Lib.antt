@@ -1,2 +1,3 @@
 pub mod Lookup
 pub mod Accepted
+pub mod Faults

@@ -2,5 +2,13 @@
 #![tactic(auto)]
 
 mod accepted;
+mod code;
+mod demand;
+mod devices;
+mod limits;
+mod meaning;
+mod parts;
+mod tasks;
+mod threads;
 
 pub use accepted::Accepted;
