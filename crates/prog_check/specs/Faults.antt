@@ -1,13 +1,15 @@
 -- The first fault of a program, judged in two steps.
-use Rattle.std.specs.Prelude.{ℕ, zero, suc, ◌-◌, ◌^◌, Bool, true, false, not, ◌&&◌, ◌||◌, List, [], length, take, Option, Some, None, is_some, nat_le, nat_lt, ◌==◌, if◌then◌else◌, slice_index, slice_index_or}
+use Rattle.std.specs.Prelude.{ℕ, zero, suc, ◌-◌, ◌^◌, Bool, true, not, ◌&&◌, ◌||◌, List, [], length, take, Option, Some, None, is_some, Result, Ok, Err, nat_le, nat_lt, ◌==◌, if◌then◌else◌, slice_index, slice_index_or}
 use Rattle.std.specs.List.{list_any}
 use Rattle.std.specs.Option.{option_or}
 use Rattle.std.specs.Str.{bytes_eq}
 use Rattle.ink_base.specs.declared.fault.Cause.{Cause}
 use Rattle.ink_base.specs.declared.fault.Cause.TheVariants.{OverLimit, Duplicate, BadOwner, BadTarget, Missing}
 use Rattle.ink_base.specs.declared.fault.JobFault.{JobFault}
+use Rattle.ink_base.specs.declared.fault.JobAnswer.{JobAnswer}
+use Rattle.ink_base.specs.declared.fault.JobAnswer.TheVariants.{Fault}
 use Rattle.task_isa.specs.declared.instr.Instr.{Instr}
-use Rattle.task_isa.specs.declared.instr.Instr.TheVariants.{Jmp, Jz, Jnz, Send, Arm, Stop, Next, Done}
+use Rattle.task_isa.specs.declared.instr.Instr.TheVariants.{Jmp, Jz, Jnz, Send, Arm, Stop, Next}
 use Rattle.task_isa.specs.declared.lines.Lines.{Lines}
 use Rattle.task_isa.specs.declared.program.ThreadDef.{ThreadDef}
 use Rattle.task_isa.specs.declared.program.PipeDef.{PipeDef}
@@ -187,3 +189,8 @@ meaning_fault program lines =
 -- the first fault of a program, or none
 unfoldable pub first_fault : Program → Lines → Option JobFault
 first_fault program lines = limit_fault program lines or_else meaning_fault program lines
+
+-- what judging a program with this first fault answers
+abbrev pub verdict : Program → Option JobFault → Result Program JobAnswer
+verdict program None = Ok program
+verdict program (Some fault) = Err (Fault fault)

@@ -1,5 +1,8 @@
 //! Programs that a board accepts.
 
+use crate::try_copy::TryCopy;
+use ink_base::NoMemory;
+use std::alloc::Global;
 use std::marker::Model;
 use task_isa::Program;
 
@@ -21,8 +24,15 @@ impl Model for Accepted {
 }
 
 impl Accepted {
-    ghost use Rattle.std.specs.Prelude.{◌≡◌};
+    ghost use Rattle.std.specs.Prelude.{◌≡◌, IfOk};
     ghost use Rattle.prog_check.specs.Accepted.{IsAccepted};
+
+    pub(crate) fn new(program: Program) -> Accepted
+        requires { IsAccepted program }
+        ensures { result ≡ program }
+    {
+        Accepted { program }
+    }
 
     /// The program.
     pub fn program(&self) -> &Program
@@ -30,5 +40,13 @@ impl Accepted {
         ensures accepted { IsAccepted self.now }
     {
         &self.program
+    }
+
+    /// An equal value.
+    pub fn copy(&self, alloc: Global) -> Result<Accepted, NoMemory>
+        ensures { IfOk result (λ copy. copy ≡ self.now) }
+    {
+        let program = self.program.try_copy(alloc)?;
+        Ok(Accepted { program })
     }
 }

@@ -81,5 +81,9 @@ pub fn judge_code(program: &Program, lines: &Lines, x: usize) -> Result<(), JobF
     ensures { result_err result ≡ code_fault program.now lines.now x }
 {
     judge_targets(program, lines, x)?;
-    demand(has_end(task(program, x)), task_line(lines, x), Cause::Missing)
+    demand(
+        has_end(task(program, x)),
+        task_line(lines, x),
+        Cause::Missing,
+    )
 }

@@ -33,7 +33,11 @@ fn judge_pipe(program: &Program, lines: &Lines, q: usize) -> Result<(), JobFault
     let pipe = pipe(program, q);
     let line = lines.program;
     let before = &program.pipes.as_slice()[..q];
-    demand(1 <= pipe.places && pipe.places <= 64, line, Cause::OverLimit)?;
+    demand(
+        1 <= pipe.places && pipe.places <= 64,
+        line,
+        Cause::OverLimit,
+    )?;
     demand(!is_pipe_taken(before, pipe), line, Cause::Duplicate)?;
     demand(is_pipe_owned(program, pipe), line, Cause::BadOwner)
 }

@@ -5,10 +5,14 @@ mod accepted;
 mod code;
 mod demand;
 mod devices;
+mod judge;
 mod limits;
 mod meaning;
 mod parts;
 mod tasks;
 mod threads;
+mod try_copy;
 
 pub use accepted::Accepted;
+pub use judge::check;
+pub use try_copy::{TryCopy, copies};

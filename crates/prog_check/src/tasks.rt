@@ -75,7 +75,11 @@ fn judge_task(program: &Program, lines: &Lines, x: usize) -> Result<(), JobFault
     let task = task(program, x);
     let line = task_line(lines, x);
     let before = &program.tasks.as_slice()[..x];
-    demand(1 <= task.limit && task.limit <= 4096, line, Cause::OverLimit)?;
+    demand(
+        1 <= task.limit && task.limit <= 4096,
+        line,
+        Cause::OverLimit,
+    )?;
     demand(!is_task_taken(before, task), line, Cause::Duplicate)?;
     demand(has_thread(program, task.thread.0), line, Cause::BadOwner)?;
     judge_owners(program, lines, x)
@@ -101,7 +105,11 @@ pub fn judge_tasks(program: &Program, lines: &Lines) -> Result<(), JobFault>
 {
     let count = program.tasks.len();
     demand(count <= 256, lines.program, Cause::OverLimit)?;
-    demand(is_code_within(program.tasks.as_slice()), lines.program, Cause::OverLimit)?;
+    demand(
+        is_code_within(program.tasks.as_slice()),
+        lines.program,
+        Cause::OverLimit,
+    )?;
     for x in 0..count {
         judge_task(program, lines, x)?;
     }
