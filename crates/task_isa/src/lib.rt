@@ -3,6 +3,7 @@
 
 mod act;
 mod acting;
+mod code;
 mod instr;
 mod lines;
 mod name;
@@ -16,6 +17,7 @@ mod timer_set;
 
 pub use act::Act;
 pub use acting::act_for;
+pub use code::{decode, encode};
 pub use instr::Instr;
 pub use lines::Lines;
 pub use name::Name;
