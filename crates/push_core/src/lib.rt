@@ -10,6 +10,8 @@ mod row;
 mod slot;
 mod stage;
 mod steps;
+#[cfg(test)]
+mod tests;
 
 pub use phase::Phase;
 pub use point::Point;
