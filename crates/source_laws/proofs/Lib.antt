@@ -11,6 +11,7 @@ pub mod Frames
 pub mod Nears
 pub mod Moves
 pub mod Steps
+pub mod Journals
 pub mod Runs
 pub mod Looks
 pub mod Ports

@@ -6,3 +6,4 @@ pub mod Rows
 pub mod Knows
 pub mod Kept
 pub mod Steps
+pub mod Journals
