@@ -1,0 +1,56 @@
+-- Which words the board of a program has.
+use Rattle.std.specs.Prelude.{ℕ, ◌+◌, ◌/◌, ◌<◌, length, map}
+use Rattle.task_isa.specs.declared.program.ThreadDef.{ThreadDef}
+use Rattle.task_isa.specs.declared.program.PipeDef.{PipeDef}
+use Rattle.task_isa.specs.declared.program.Task.{Task}
+use Rattle.task_isa.specs.declared.program.Program.{Program}
+use Rattle.prog_check.specs.Lookup.{thread_def, pipe_def, task_def}
+use Rattle.fram_words.specs.Places.{Place, Code, Commit, Page, Log, Ring, Tail, Slot, Ack, Clock, Src}
+use Rattle.fram_words.specs.Shape.{Shape, ThreadShape, regions, words_before}
+
+-- the header has 48 words, and a page eight
+abbrev pub block_words : ThreadDef → ℕ
+block_words thread = 48 + thread.state
+
+abbrev pub pages_of : ThreadDef → ℕ
+pages_of thread = 6 + (thread.state + 7) / 8
+
+abbrev pub thread_shape : ThreadDef → ThreadShape
+thread_shape thread = record { pages = pages_of thread; log = thread.log }
+
+abbrev pub task_words : Task → ℕ
+task_words task = length task.code
+
+abbrev pub pipe_words : PipeDef → ℕ
+pipe_words pipe = pipe.places
+
+abbrev pub queue_words : ThreadDef → ℕ
+queue_words thread = thread.queue
+
+-- a word for each instruction; the pages and the log of each thread; the places of each pipe and queue; and the sources
+abbrev pub shape_of : Program → Shape
+shape_of program =
+    record {
+      tasks = map task_words program.tasks;
+      threads = map thread_shape program.threads;
+      pipes = map pipe_words program.pipes;
+      queues = map queue_words program.threads;
+      sources = length program.sources;
+    }
+
+-- how many words there are
+abbrev pub words_of : Shape → ℕ
+words_of s = words_before (regions s) (length (regions s))
+
+-- the places of the program's board
+abbrev pub IsOnBoard : Program → Place → Type 0
+IsOnBoard program (Code x n) = (x < length program.tasks) × (n < length (task_def program x).code)
+IsOnBoard program (Commit t) = t < length program.threads
+IsOnBoard program (Page t p b k) = (t < length program.threads) × (p < pages_of (thread_def program t)) × (b < 2) × (k < 8)
+IsOnBoard program (Log t n) = (t < length program.threads) × (n < (thread_def program t).log)
+IsOnBoard program (Ring q n) = (q < length program.pipes) × (n < (pipe_def program q).places)
+IsOnBoard program (Tail t) = t < length program.threads
+IsOnBoard program (Slot t n) = (t < length program.threads) × (n < (thread_def program t).queue)
+IsOnBoard program (Ack i) = i < length program.sources
+IsOnBoard program Clock = Unit {0}
+IsOnBoard program (Src i) = i < length program.sources
