@@ -11,6 +11,8 @@ mod sink;
 mod source;
 mod standard;
 mod sure;
+#[cfg(test)]
+mod tests;
 mod unread;
 mod whole;
 

@@ -29,6 +29,7 @@ pub fn read_job<S: Source>(alloc: Global, source: &mut S) -> Result<Vec<u8>, Rea
     // No fault is passed over, and none is answered that didn't come.
     ensures clean { OnOk result (S.faults source.new ≡ S.faults source.old) }
     ensures fault { IsErrOf result ReadAnswer.ReadFault → Rose (S.faults source.old) (S.faults source.new) }
+    ensures spared { ¬ IsErrOf result ReadAnswer.ReadFault → S.faults source.new ≡ S.faults source.old }
     ensures later { S.faults source.old ≤ S.faults source.new }
 
     // Too long is exactly one byte more than a job may have.
@@ -36,6 +37,7 @@ pub fn read_job<S: Source>(alloc: Global, source: &mut S) -> Result<Vec<u8>, Rea
         → TookCount (S.left source.old) (S.left source.new) (JOB_LIMIT + 1) }
     ensures not_yet_long { IsErrOf result ReadAnswer.ReadFault
         → TookAtMost (S.left source.old) (S.left source.new) JOB_LIMIT }
+    ensures taken { TookAtMost (S.left source.old) (S.left source.new) (JOB_LIMIT + 1) }
 
     // Each successful read but the last took at least one byte.
     ensures reads { IfOk result (λ job. S.reads source.new ≤ S.reads source.old + length job.items + 1) }
