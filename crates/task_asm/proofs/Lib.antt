@@ -1,0 +1,2 @@
+pub mod LabelMap
+pub mod SectionSteps

@@ -1,0 +1,37 @@
+//! A program as far as it is read.
+
+use crate::few::Few;
+use crate::labels::Labels;
+use ink_base::ThreadId;
+use sqlite_items::Items;
+use task_isa::{Instr, Name, ThreadDef};
+
+/// An instruction and the number of its line.
+#[derive(Drop)]
+pub struct DraftLine {
+    pub line: u32,
+    pub instr: Instr,
+}
+
+/// A task: the number of its line, what its line says, the number of instructions before it, its code, and its labels.
+#[derive(Drop)]
+pub struct DraftTask {
+    pub line: u32,
+    pub name: Name,
+    pub thread: ThreadId,
+    pub limit: u16,
+    pub before: u32,
+    pub code: Items<DraftLine>,
+    pub labels: Labels,
+}
+
+/// The declarations so far, the lines of the threads, the task that is open, and the number of all instructions.
+#[derive(Drop)]
+pub struct Draft {
+    pub threads: Few<ThreadDef>,
+    pub thread_lines: Items<u32>,
+    pub sources: Items<ThreadId>,
+    pub tasks: Items<DraftTask>,
+    pub current: Option<DraftTask>,
+    pub count: u32,
+}

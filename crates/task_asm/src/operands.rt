@@ -1,0 +1,107 @@
+//! The operands of instructions.
+
+ghost use Rattle.std.specs.Prelude.{◌≡◌, ◌<◌, IfOk};
+ghost use Rattle.ink_base.specs.Checks.{words_of};
+ghost use Rattle.ink_base.specs.Gives.{Gives};
+ghost use Rattle.task_asm.specs.Task.{register_of, register_in, one_in, two_in, three_in, constant_in, instr_in};
+
+use crate::op::Op;
+use ink_base::checks::{end, first, is_digit, number};
+use ink_base::{Cause, LineError, Token};
+use task_isa::{Instr, Reg};
+
+#[tactic(auto, unfolding(crate::specs::Task::register_of))]
+fn register_of(word: &[u8]) -> Result<u8, LineError>
+    ensures given { Gives (λ x. x) result (register_of word.now) }
+    ensures within { IfOk result (λ x. x < 16) }
+{
+    match word {
+        [r, d] if *r == b'r' && is_digit(*d) => Ok(*d - 48),
+        [r, t, d] if *r == b'r' && *t == b'1' && 48 <= *d && *d <= 53 => Ok(*d - 38),
+        _ => Err(LineError::Fault(Cause::UnknownWord)),
+    }
+}
+
+#[tactic(auto, unfolding(crate::specs::Task::register_in))]
+fn register<'a>(text: &'a [u8], words: &'a [Token]) -> Result<(u8, &'a [Token]), LineError>
+    ensures within { IfOk result (λ x. x.0 < 16) }
+    ensures given { Gives (λ x. (x.0, words_of text.now x.1.now)) result (register_in (words_of text.now words.now)) }
+{
+    let (word, rest) = first(text, words)?;
+    let r = register_of(word)?;
+    Ok((r, rest))
+}
+
+#[tactic(auto, unfolding(crate::specs::Task::one_in))]
+fn one<'a>(text: &'a [u8], words: &'a [Token]) -> Result<Reg, LineError>
+    ensures { Gives (λ x. x) result (one_in (words_of text.now words.now)) }
+{
+    let (a, rest) = register(text, words)?;
+    end(text, rest)?;
+    Ok(Reg::new(a))
+}
+
+#[tactic(auto, unfolding(crate::specs::Task::two_in))]
+fn two<'a>(text: &'a [u8], words: &'a [Token]) -> Result<(Reg, Reg), LineError>
+    ensures { Gives (λ x. x) result (two_in (words_of text.now words.now)) }
+{
+    let (a, rest) = register(text, words)?;
+    let b = one(text, rest)?;
+    Ok((Reg::new(a), b))
+}
+
+#[tactic(auto, unfolding(crate::specs::Task::three_in))]
+fn three<'a>(text: &'a [u8], words: &'a [Token]) -> Result<(Reg, Reg, Reg), LineError>
+    ensures { Gives (λ x. x) result (three_in (words_of text.now words.now)) }
+{
+    let (a, rest) = register(text, words)?;
+    let (b, c) = two(text, rest)?;
+    Ok((Reg::new(a), b, c))
+}
+
+#[tactic(auto, unfolding(crate::specs::Task::constant_in))]
+fn constant<'a>(text: &'a [u8], words: &'a [Token]) -> Result<(Reg, u32), LineError>
+    ensures { Gives (λ x. x) result (constant_in (words_of text.now words.now)) }
+{
+    let (a, rest) = register(text, words)?;
+    let (i, rest) = number(text, rest, 0, 4294967295)?;
+    end(text, rest)?;
+    Ok((Reg::new(a), i as u32))
+}
+
+/// The instruction of a word, with the operands behind it. Refused by the first fault from the left.
+#[tactic(auto, unfolding(crate::specs::Task::instr_in))]
+pub fn instr(op: Op, text: &[u8], words: &[Token]) -> Result<Instr, LineError>
+    ensures { Gives (λ x. x) result (instr_in op (words_of text.now words.now)) }
+{
+    match op {
+        Op::Li => {
+            let (a, i) = constant(text, words)?;
+            Ok(Instr::Li { a, i })
+        }
+        Op::Add => {
+            let (a, b, c) = three(text, words)?;
+            Ok(Instr::Add { a, b, c })
+        }
+        Op::Ev => {
+            let a = one(text, words)?;
+            Ok(Instr::Ev { a })
+        }
+        Op::Ld => {
+            let (a, b) = two(text, words)?;
+            Ok(Instr::Ld { a, b })
+        }
+        Op::St => {
+            let (a, b) = two(text, words)?;
+            Ok(Instr::St { a, b })
+        }
+        Op::Out => {
+            let a = one(text, words)?;
+            Ok(Instr::Out { a })
+        }
+        Op::Done => {
+            end(text, words)?;
+            Ok(Instr::Done)
+        }
+    }
+}

@@ -1,0 +1,123 @@
+//! The lines of a task.
+
+ghost use Rattle.std.specs.Prelude.{◌≡◌};
+ghost use Rattle.std.specs.Option.{option_map};
+ghost use Rattle.ink_base.specs.Checks.{words_of};
+ghost use Rattle.ink_base.specs.Gives.{Leaves};
+ghost use Rattle.task_asm.specs.Task.{label_of, label_line, instr_line, end_line, inside_line, line_in};
+
+use crate::draft::{Draft, DraftLine, DraftTask};
+use crate::forms::{read_outside, room};
+use crate::named::fresh;
+use crate::op::op_of;
+use crate::operands::instr;
+use ink_base::checks::{end, word};
+use ink_base::{LineError, Token};
+use std::alloc::Global;
+
+fn label_of(word: &[u8]) -> Option<&[u8]>
+    ensures { option_map (λ x. x.now) result ≡ label_of word.now }
+{
+    if !word.is_empty() && word[word.len() - 1] == b':' {
+        Some(&word[..word.len() - 1])
+    } else {
+        None
+    }
+}
+
+#[tactic(auto, unfolding(crate::specs::Task::label_line))]
+fn read_label(
+    alloc: Global,
+    draft: &mut Draft,
+    mut task: DraftTask,
+    text: &[u8],
+    name: &[u8],
+    words: &[Token],
+) -> Result<(), LineError>
+    ensures { Leaves result draft.new (label_line draft.old task name.now (words_of text.now words.now)) }
+{
+    fresh(name, task.labels.get(name).is_some())?;
+    end(text, words)?;
+    let offset = draft.count.saturating_sub(task.before);
+    task.labels.insert(alloc, name, offset)?;
+    draft.current = Some(task);
+    Ok(())
+}
+
+#[tactic(auto, unfolding(crate::specs::Task::instr_line))]
+fn read_instr(
+    draft: &mut Draft,
+    mut task: DraftTask,
+    text: &[u8],
+    line: u32,
+    word: &[u8],
+    words: &[Token],
+) -> Result<(), LineError>
+    ensures { Leaves result draft.new (instr_line draft.old task line word.now (words_of text.now words.now)) }
+{
+    let op = op_of(word)?;
+    room(4096, draft.count as usize)?;
+    let instr = instr(op, text, words)?;
+    task.code.push(DraftLine { line, instr })?;
+    draft.current = Some(task);
+    draft.count += 1;
+    Ok(())
+}
+
+#[tactic(auto, unfolding(crate::specs::Task::end_line))]
+fn read_end(
+    draft: &mut Draft,
+    task: DraftTask,
+    text: &[u8],
+    words: &[Token],
+) -> Result<(), LineError>
+    ensures { Leaves result draft.new (end_line draft.old task (words_of text.now words.now)) }
+{
+    end(text, words)?;
+    draft.tasks.push(task)?;
+    Ok(())
+}
+
+#[tactic(auto, unfolding(crate::specs::Task::inside_line))]
+fn read_inside(
+    alloc: Global,
+    draft: &mut Draft,
+    task: DraftTask,
+    text: &[u8],
+    line: u32,
+    word: &[u8],
+    words: &[Token],
+) -> Result<(), LineError>
+    ensures { Leaves result draft.new (inside_line draft.old task line word.now (words_of text.now words.now)) }
+{
+    if word == b"end".as_slice() {
+        return read_end(draft, task, text, words);
+    }
+    match label_of(word) {
+        Some(name) => read_label(alloc, draft, task, text, name, words),
+        None => read_instr(draft, task, text, line, word, words),
+    }
+}
+
+/// A line of the section that is no header. Refused by its first fault from the left; nothing is then said of the draft.
+#[tactic(auto, unfolding(crate::specs::Task::line_in))]
+pub fn read_line(
+    alloc: Global,
+    draft: &mut Draft,
+    text: &[u8],
+    line: u32,
+    words: &[Token],
+) -> Result<(), LineError>
+    ensures { Leaves result draft.new (line_in draft.old line (words_of text.now words.now)) }
+{
+    match words {
+        [] => Ok(()),
+        [first, rest @ ..] => {
+            let first = word(text, first);
+            match draft.current.take() {
+                None => read_outside(alloc, draft, text, line, first, rest),
+                Some(task) => read_inside(alloc, draft, task, text, line, first, rest),
+            }
+        }
+    }
+}
