@@ -1,0 +1,19 @@
+-- The first place of a list that passes a test.
+use Rattle.std.proofs.Common.{◌≡◌, ◌≤◌, Bool, List, length, arith, refl, inl, inr}
+use Rattle.std.specs.Prelude.{nat_lt, not, unwrap_or}
+use Rattle.std.specs.List.{position, position_or_len}
+use Rattle.std.proofs.lemmas.Bool.{cases_Bool, ltb-false}
+use Rattle.std.proofs.lemmas.List.Sums.{prefix_len-le-length}
+
+pub unwrap_or-position : {X : Type 0} (p : X → Bool) (xs : List X) → unwrap_or (position p xs) (length xs) ≡ position_or_len p xs
+unwrap_or-position p xs =
+    elim (cases_Bool (nat_lt (position_or_len p xs) (length xs))) [
+      | inl t ↦ rw t refl
+      | inr f ↦
+          let beyond : length xs ≤ position_or_len p xs = ltb-false (position_or_len p xs) (length xs) f in
+          let within : position_or_len p xs ≤ length xs = prefix_len-le-length (λ x. not (p x)) xs in
+          rw f (omega arith)
+    ]
+
+-- for the function that looks a task up
+pub ruleset first_place = (unwrap_or-position)

@@ -1,0 +1,4 @@
+pub mod Buffers
+pub mod Endings
+pub mod Machine
+pub mod Fits

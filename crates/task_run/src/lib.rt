@@ -1,0 +1,19 @@
+//! The service of one pick of a scan, an access at a time: the event's words, a task, its end, the commit, and the release of the event.
+#![tactic(auto)]
+
+mod buffer;
+mod copying;
+mod ending;
+mod execution;
+mod following;
+mod machine;
+mod parts;
+mod phase;
+mod steps;
+mod want;
+
+pub use buffer::Buffer;
+pub use ending::Ending;
+pub use execution::Execution;
+pub use machine::TaskMachine;
+pub use phase::Phase;

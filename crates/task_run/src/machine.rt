@@ -1,0 +1,71 @@
+//! The machine that serves one pick.
+
+ghost use Rattle.std.specs.Prelude.{◌≡◌};
+ghost use Rattle.task_run.specs.Machine as machine;
+
+use crate::buffer::Buffer;
+use crate::ending::Ending;
+use crate::execution::Execution;
+use crate::following::first_phase;
+use crate::phase::Phase;
+use ink_base::TaskId;
+use ink_layout::{KernelPoint, Pick, SlotAt};
+
+/// The machine that serves one pick, by its registers: the pick, the kernel's stamp (the number of commits before this one), the
+/// registers of the thread's writes, how the task ends as far as is known, how far its run is, and the access that comes next.
+#[derive(Clone, Copy, Debug, PartialEq, Eq)]
+pub struct TaskMachine {
+    pub pick: Pick,
+    pub stamp: u64,
+    pub buffer: Buffer,
+    pub ending: Ending,
+    pub execution: Execution,
+    pub phase: Phase,
+}
+
+impl TaskMachine {
+    /// The machine before its first access.
+    pub fn begin(pick: Pick, stamp: u64) -> TaskMachine
+        ensures { result ≡ machine.begin pick stamp }
+    {
+        TaskMachine {
+            pick,
+            stamp,
+            buffer: Buffer::begin(pick.commit_word),
+            ending: Ending::Done,
+            execution: Execution::begin(pick.running.unwrap_or(TaskId(0))),
+            phase: first_phase(pick.running),
+        }
+    }
+
+    /// The pick is served: its last access was made.
+    pub fn is_over(&self) -> bool
+        ensures { result ≡ machine.is_over self.now.phase }
+    {
+        matches!(self.phase, Phase::Over)
+    }
+
+    /// What the access that is wanted means to the never-cut kernel.
+    pub(crate) fn point(&self) -> KernelPoint
+        ensures { result ≡ machine.point self.now }
+    {
+        match self.phase {
+            Phase::StoreCommit => KernelPoint::Commit(self.pick.thread),
+            Phase::StoreEmpty => KernelPoint::Release(self.pick.thread),
+            _ => KernelPoint::Nothing,
+        }
+    }
+
+    /// The event that the wanted access acknowledges or releases.
+    pub(crate) fn slot_at(&self) -> Option<SlotAt>
+        ensures { result ≡ machine.slot_at self.now self.now.phase }
+    {
+        match self.phase {
+            Phase::StoreAck { .. } | Phase::StoreEmpty => Some(SlotAt {
+                thread: self.pick.thread,
+                position: self.pick.position,
+            }),
+            _ => None,
+        }
+    }
+}
