@@ -1,0 +1,144 @@
+-- The access table of a scan: in each row one access, the row that follows, and what the access stands for.
+use Rattle.std.specs.Prelude.{ℕ, ◌-◌, ◌/◌, ◌%◌, ◌^◌, ◌<◌, ◌≤◌, ◌==◌, length, if◌then◌else◌, Option, Some, None}
+use Rattle.ink_base.specs.declared.ids.ThreadId.{ThreadId}
+use Rattle.ink_base.specs.declared.ids.TaskId.{TaskId}
+use Rattle.ink_base.specs.declared.event.Event.{Event}
+use Rattle.ink_base.specs.declared.event.Origin as origin
+use Rattle.ink_base.specs.declared.event.Origin.TheVariants as origins
+use Rattle.task_isa.specs.declared.program.Program.{Program}
+use Rattle.fram_words.specs.Places.{Access, Load}
+use Rattle.fram_words.specs.Places as places
+use Rattle.thread_state.specs.Pages.{place_in}
+use Rattle.push_core.specs.Slots.{slot_in}
+use Rattle.push_core.specs.declared.slot.Slot as slot
+use Rattle.push_core.specs.declared.slot.Slot.TheVariants as slots
+use Rattle.prog_check.specs.Lookup.{thread_def}
+use Rattle.ink_layout.specs.declared.kernel_point.KernelPoint.{KernelPoint}
+use Rattle.ink_layout.specs.declared.kernel_point.KernelPoint.TheVariants as points
+use Rattle.ink_layout.specs.declared.pick.Pick.{Pick}
+use Rattle.ink_layout.specs.declared.slot_at.SlotAt.{SlotAt}
+use Rattle.reboot.specs.Boot.{slot_place}
+use Rattle.priority_sched.specs.declared.scan_at.ScanAt.{ScanAt}
+use Rattle.priority_sched.specs.declared.scan_at.ScanAt.TheVariants.{Clock, Commit, Running, Finished, Origin, Value, First, Slot, Picked, Quiet}
+use Rattle.priority_sched.specs.declared.scanned.Scanned.{Scanned}
+use Rattle.priority_sched.specs.declared.scanned.Scanned.TheVariants as scanned
+use Rattle.priority_sched.specs.declared.machine.ScanMachine.{ScanMachine}
+use Rattle.priority_sched.specs.Order.{priority_of, next_below}
+
+abbrev pub scan_at : ThreadId → ℕ → ScanAt → ScanMachine
+scan_at thread time at = record { thread = thread; time = time; at = at }
+
+-- the registers in which a scan begins
+abbrev pub scan_begun : ScanMachine
+scan_begun = scan_at (record { 0 = 0 }) 0 Clock
+
+-- the access of each row, for thread t; a scan that is over has none to make
+abbrev pub scan_wants : Program → (t : ℕ) → ScanAt → Access
+scan_wants program t Clock = Load places.Clock
+scan_wants program t Commit = Load (places.Commit t)
+scan_wants program t (Running c) = Load (place_in t c 1)
+scan_wants program t (Finished c running) = Load (place_in t c 5)
+scan_wants program t (Origin c task p) = Load (place_in t c 3)
+scan_wants program t (Value c task p o) = Load (place_in t c 4)
+scan_wants program t (First c task p e) = Load (place_in t c 2)
+scan_wants program t (Slot c p) = Load (slot_place program t p)
+scan_wants program t (Picked pick) = Load places.Clock
+scan_wants program t Quiet = Load places.Clock
+
+-- the next task of a running chain, none where the thread is idle
+abbrev pub running_of : (word : ℕ) → Option TaskId
+running_of word = if word == 0 then None else Some (record { 0 = word - 1 })
+
+-- the origin in a word: its kind in bits 56 up
+abbrev pub origin_of : (word : ℕ) → origin.Origin
+origin_of word =
+    if word / 2 ^ 56 == 1 then origins.Source (record { 0 = word / 2 ^ 16 % 2 ^ 8 }) (word % 2 ^ 8)
+    else (if word / 2 ^ 56 == 2 then origins.Pipe (record { 0 = word / 2 ^ 32 % 2 ^ 8 }) (word % 2 ^ 32)
+    else origins.Timer (record { 0 = word / 2 ^ 48 % 2 ^ 8 }) (word % 2 ^ 48))
+
+-- the event of a slot that holds one of the position
+abbrev pub event_at : (p : ℕ) → Option slot.Slot → Option Event
+event_at p (Some (slots.Full q source count value)) = if q == p then Some (record { origin = origins.Source source count; value = value }) else None
+event_at p (Some (slots.Empty q)) = None
+event_at p None = None
+
+-- the pick of a running chain
+abbrev pub chain_pick : ThreadId → (time c : ℕ) → TaskId → (p first : ℕ) → Event → Pick
+chain_pick thread time c task p first e =
+    record { thread = thread; event = e; running = Some task; position = p; time = time; commit_word = c; first = first; due_word = 0; taken = 0 }
+
+-- the pick of a queue's event
+abbrev pub queue_pick : ThreadId → (time c p : ℕ) → Event → Pick
+queue_pick thread time c p e =
+    record { thread = thread; event = e; running = None; position = p; time = time; commit_word = c; first = 0; due_word = 0; taken = 0 }
+
+-- the first row of the next thread, or the end
+abbrev pub scan_next : ThreadId → (time : ℕ) → Option ThreadId → ScanMachine
+scan_next thread time (Some next) = scan_at next time Commit
+scan_next thread time None = scan_at thread time Quiet
+
+-- after the thread has no pending event: the thread of the greatest priority below its own
+abbrev pub scan_passed : Program → ThreadId → (time : ℕ) → ScanMachine
+scan_passed program thread time = scan_next thread time (next_below program (priority_of program thread.0))
+
+-- after the number of finished events
+abbrev pub after_finished : ThreadId → (time c p : ℕ) → Option TaskId → ScanMachine
+after_finished thread time c p None = scan_at thread time (Slot c p)
+after_finished thread time c p (Some task) = scan_at thread time (Origin c task p)
+
+-- after the value of a running chain's event
+abbrev pub after_value : ThreadId → (time c : ℕ) → TaskId → (p : ℕ) → Event → (expires : Option ℕ) → ScanMachine
+after_value thread time c task p e None = scan_at thread time (Picked (chain_pick thread time c task p 0 e))
+after_value thread time c task p e (Some ticks) = scan_at thread time (First c task p e)
+
+-- after the look at a slot
+abbrev pub after_look : Program → ThreadId → (time c p : ℕ) → Option Event → ScanMachine
+after_look program thread time c p (Some e) = scan_at thread time (Picked (queue_pick thread time c p e))
+after_look program thread time c p None = scan_passed program thread time
+
+-- the registers after the access found this word
+abbrev pub scan_takes : Program → ThreadId → (time : ℕ) → ScanAt → (word : ℕ) → ScanMachine
+scan_takes program thread time Clock word = scan_next thread word (next_below program 256)
+scan_takes program thread time Commit word = scan_at thread time (Running word)
+scan_takes program thread time (Running c) word = scan_at thread time (Finished c (running_of word))
+scan_takes program thread time (Finished c running) word = after_finished thread time c word running
+scan_takes program thread time (Origin c task p) word = scan_at thread time (Value c task p (origin_of word))
+scan_takes program thread time (Value c task p o) word =
+    after_value thread time c task p (record { origin = o; value = word }) (thread_def program thread.0).expires
+scan_takes program thread time (First c task p e) word = scan_at thread time (Picked (chain_pick thread time c task p word e))
+scan_takes program thread time (Slot c p) word = after_look program thread time c p (event_at p (slot_in word))
+scan_takes program thread time (Picked pick) word = scan_at thread time (Picked pick)
+scan_takes program thread time Quiet word = scan_at thread time Quiet
+
+-- a look finds no event
+abbrev pub look_point : ThreadId → Option Event → KernelPoint
+look_point thread None = points.Look thread
+look_point thread (Some e) = points.Nothing
+
+-- what the access stands for
+abbrev pub scan_point : ThreadId → ScanAt → (word : ℕ) → KernelPoint
+scan_point thread Clock word = points.Scan
+scan_point thread (Slot c p) word = look_point thread (event_at p (slot_in word))
+scan_point thread at word = points.Nothing
+
+-- what a scan found, once it is over
+abbrev pub scan_result : ScanAt → Option Scanned
+scan_result (Picked pick) = Some (scanned.Pick pick)
+scan_result Quiet = Some scanned.Quiet
+scan_result at = None
+
+-- the event that the access looks for
+abbrev pub scan_slot : ThreadId → ScanAt → Option SlotAt
+scan_slot thread (Slot c p) = Some (record { thread = thread; position = p })
+scan_slot thread at = None
+
+-- the word is one that the access may find: a chain goes on with a task of the program, a position is below 2 ^ 20, a value below 2 ^ 32
+abbrev pub IsScanWord : Program → ScanAt → (word : ℕ) → Type 0
+IsScanWord program (Running c) word = word ≤ length program.tasks
+IsScanWord program (Finished c running) word = word < 2 ^ 20
+IsScanWord program (Value c task p o) word = word < 2 ^ 32
+IsScanWord program at word = Unit {0}
+
+-- the thread at hand is one of the program
+abbrev pub IsScan : Program → ScanMachine → Type 0
+IsScan program scan = scan.thread.0 < length program.threads

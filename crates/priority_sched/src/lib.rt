@@ -1,0 +1,13 @@
+//! The scan: the kernel looks at the threads from the highest priority down and picks the first pending event.
+#![tactic(auto)]
+
+mod machine;
+mod order;
+mod origin;
+mod scan_at;
+mod scanned;
+
+pub use machine::ScanMachine;
+pub use order::next_below;
+pub use scan_at::ScanAt;
+pub use scanned::Scanned;

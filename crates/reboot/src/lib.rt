@@ -1,0 +1,10 @@
+//! The start of a charge: the kernel looks for the newest stamp, and releases each finished event whose slot is still full.
+#![tactic(auto)]
+
+mod address;
+mod boot_at;
+mod machine;
+
+pub use address::{header_at, slot_at};
+pub use boot_at::BootAt;
+pub use machine::BootMachine;

@@ -1,0 +1,188 @@
+//! The boot of the kernel as a machine.
+ghost use Rattle.std.specs.Prelude.{◌≡◌, ◌<◌, ◌^◌, length};
+ghost use Rattle.prog_check.specs.Accepted.{IsAccepted};
+ghost use Rattle.push_core.specs.Slots.{slot_in};
+ghost use Rattle.ink_layout.specs.Addresses.{FitsLayout, at_layout};
+ghost use Rattle.reboot.specs.Boot.{boot_begun, boot_wants, boot_takes, boot_next, after_slot, boot_point, boot_stamp, boot_slot, IsBoot, IsBootWord, IsOfSource};
+
+use crate::address::{header_at, slot_at};
+use crate::boot_at::BootAt;
+use fram_words::{Access, Layout};
+use ink_base::ThreadId;
+use ink_layout::{KernelPoint, SlotAt};
+use push_core::{Slot, empty, read_slot};
+use task_isa::Program;
+
+/// The kernel at the start of a charge: the thread at hand, the greatest stamp that it has loaded, and the row of the access table.
+#[derive(Clone, Copy, Debug, PartialEq, Eq)]
+pub struct BootMachine {
+    pub thread: ThreadId,
+    pub stamp: u64,
+    pub at: BootAt,
+}
+
+impl BootMachine {
+    /// A boot before its first access.
+    pub fn begin() -> BootMachine
+        ensures { result ≡ boot_begun }
+    {
+        BootMachine {
+            thread: ThreadId(0),
+            stamp: 0,
+            at: BootAt::Commit,
+        }
+    }
+
+    /// The greatest stamp of all threads, which is the number of commits; none exactly where the boot isn't over.
+    pub fn stamp(&self) -> Option<u64>
+        ensures { result ≡ boot_stamp self.now }
+    {
+        match self.at {
+            BootAt::Over => Some(self.stamp),
+            _ => None,
+        }
+    }
+
+    /// The next access. Once the boot is over there is none to make.
+    fn access(self, program: &Program, layout: &Layout) -> Access
+        requires accepted { IsAccepted program.now }
+        requires layout { FitsLayout program.now layout.now }
+        requires row { IsBoot program.now self }
+        ensures { result ≡ at_layout layout.now (boot_wants program.now self.thread.0 self.at) }
+    {
+        match self.at {
+            BootAt::Commit | BootAt::Over => Access::Load(
+                layout.threads.as_slice()[self.thread.0 as usize].commit,
+            ),
+            BootAt::Stamp { commit_word } => Access::Load(header_at(
+                program,
+                layout,
+                self.thread,
+                commit_word,
+                0,
+            )),
+            BootAt::Finished { commit_word } => Access::Load(header_at(
+                program,
+                layout,
+                self.thread,
+                commit_word,
+                5,
+            )),
+            BootAt::Slot { position } => Access::Load(slot_at(
+                program,
+                layout,
+                self.thread,
+                position,
+            )),
+            BootAt::Ack { source, count, .. } => Access::Store(
+                layout.acks + source.0 as u32,
+                (count as u64 + 1) % 64,
+            ),
+            BootAt::Empty { position } => Access::Store(
+                slot_at(program, layout, self.thread, position),
+                empty(position + program.threads.as_slice()[self.thread.0 as usize].queue as u32),
+            ),
+        }
+    }
+
+    /// What the access stands for.
+    fn point(self) -> KernelPoint
+        ensures { result ≡ boot_point self.thread self.at }
+    {
+        match self.at {
+            BootAt::Empty { .. } => KernelPoint::Release(self.thread),
+            _ => KernelPoint::Nothing,
+        }
+    }
+
+    /// The event that the access looks for, acknowledges or releases.
+    fn slot(self) -> Option<SlotAt>
+        ensures { result ≡ boot_slot self.thread self.at }
+    {
+        match self.at {
+            BootAt::Slot { position } | BootAt::Ack { position, .. } | BootAt::Empty { position } =>
+                Some(SlotAt {
+                    thread: self.thread,
+                    position,
+                }),
+            _ => None,
+        }
+    }
+
+    /// The registers after the access, which found this word.
+    fn following(self, program: &Program, word: u64) -> BootMachine
+        requires accepted { IsAccepted program.now }
+        requires row { IsBoot program.now self }
+        requires range { IsBootWord program.now self.at word }
+        ensures taken { result ≡ boot_takes program.now self.thread self.stamp self.at word }
+        ensures row { IsBoot program.now result }
+    {
+        match self.at {
+            BootAt::Commit => self.with(BootAt::Stamp { commit_word: word }),
+            BootAt::Stamp { commit_word } => BootMachine {
+                stamp: self.stamp.max(word),
+                at: BootAt::Finished { commit_word },
+                ..self
+            },
+            BootAt::Finished { .. } if word == 0 => self.next(program),
+            BootAt::Finished { .. } => self.with(BootAt::Slot {
+                position: (word - 1) as u32,
+            }),
+            BootAt::Slot { position } => self.after_slot(program, position, word),
+            BootAt::Ack { position, .. } => self.with(BootAt::Empty { position }),
+            BootAt::Empty { .. } => self.next(program),
+            BootAt::Over => self,
+        }
+    }
+
+    /// Another row with the same thread and stamp.
+    fn with(self, at: BootAt) -> BootMachine
+        ensures { result ≡ record self { at = at } }
+    {
+        BootMachine { at, ..self }
+    }
+
+    /// The first row of the next thread, or the end.
+    fn next(self, program: &Program) -> BootMachine
+        requires accepted { IsAccepted program.now }
+        requires known { self.thread.0 < length program.now.threads }
+        ensures next { result ≡ boot_next program.now self.thread self.stamp }
+        ensures row { IsBoot program.now result }
+    {
+        if self.thread.0 as usize + 1 < program.threads.len() {
+            BootMachine {
+                thread: ThreadId(self.thread.0 + 1),
+                at: BootAt::Commit,
+                ..self
+            }
+        } else {
+            self.with(BootAt::Over)
+        }
+    }
+
+    /// After the load of a slot: an event of the position is acknowledged.
+    fn after_slot(self, program: &Program, position: u32, word: u64) -> BootMachine
+        requires accepted { IsAccepted program.now }
+        requires known { self.thread.0 < length program.now.threads }
+        requires position { position < 2 ^ 20 }
+        requires range { IsOfSource program.now (slot_in word) }
+        ensures taken { result ≡ after_slot program.now self.thread self.stamp position (slot_in word) }
+        ensures row { IsBoot program.now result }
+    {
+        match read_slot(word) {
+            Some(
+                Slot::Full {
+                    position: found,
+                    source,
+                    count,
+                    ..
+                },
+            ) if found == position => self.with(BootAt::Ack {
+                position,
+                source,
+                count,
+            }),
+            _ => self.next(program),
+        }
+    }
+}
