@@ -1,1 +1,4 @@
 pub mod Codes
+mod Sends
+mod Fitting
+mod Runs

@@ -3,13 +3,17 @@
 
 mod act;
 mod acting;
+mod applying;
 mod code;
+mod evaluation;
+mod flow;
 mod instr;
 mod lines;
 mod name;
 mod outcome;
 mod program;
 mod reg;
+mod run;
 mod sent;
 mod task_end;
 mod task_start;
@@ -18,6 +22,7 @@ mod timer_set;
 pub use act::Act;
 pub use acting::act_for;
 pub use code::{decode, encode};
+pub use evaluation::eval_task;
 pub use instr::Instr;
 pub use lines::Lines;
 pub use name::Name;
