@@ -4,11 +4,11 @@ use Rattle.std.proofs.lemmas.Bool.{cases_eq}
 use Rattle.fram_words.specs.Changes.{Becomes}
 use Rattle.fram_words.specs.Places.{Place, Tail, Ack, Src}
 use Rattle.fram_words.specs.Places as places
-use Rattle.source_laws.specs.Model.{places_of, Board, Queue, Source, published, SourceBecomes}
+use Rattle.source_laws.specs.Model.{places_for, Board, Queue, Source, published, SourceBecomes}
 use Rattle.source_laws.specs.Stands.{StandsQueue, StandsSource, Stored}
 use Rattle.push_core.specs.declared.row.Row.{Row}
 use Rattle.source_laws.specs.Knows.{Knows}
-use Rattle.source_laws.specs.Kept.{State, Kept, near, QueueKept, SourceKept, EventsKept, IsEvent, IsOrdered, IsWithin, accepted_into}
+use Rattle.source_laws.specs.Kept.{State, Kept, near, QueueKept, SourcePart, slots_of, EventsKept, IsEvent, IsOrdered, IsWithin, accepted_into}
 use Rattle.source_laws.proofs.Queues.{queue_same}
 use Rattle.source_laws.proofs.Sources.{source_store}
 use Rattle.source_laws.proofs.Nears.{near_is, source_as}
@@ -17,7 +17,7 @@ use Rattle.source_laws.proofs.Own.{Own}
 
 module _ (board : Board) (x y : State) where
   pub queue_part : (t : ℕ) → ((n : ℕ) → y.word (places.Slot t n) ≡ x.word (places.Slot t n)) → y.word (Tail t) ≡ x.word (Tail t) → y.model.queue t ≡ x.model.queue t → QueueKept board x t → QueueKept board y t
-  queue_part t slots tail queue h = queue_same (places_of board t) (λ n. x.word (places.Slot t n)) (λ n. y.word (places.Slot t n)) (x.word (Tail t)) (y.word (Tail t)) (x.model.queue t) (y.model.queue t) slots tail queue h
+  queue_part t slots tail queue h = queue_same h slots tail queue
 
   pub events_part : (t : ℕ) → y.model.queue t ≡ x.model.queue t → ((j : ℕ) → board.queue_of j ≡ t → (y.model.source j).accepted ≡ (x.model.source j).accepted) → EventsKept board x.model.queue x.model.source t → EventsKept board y.model.queue y.model.source t
   events_part t queue accepted h =
@@ -26,7 +26,7 @@ module _ (board : Board) (x y : State) where
 
 -- what is known of one source
 pub own_of : (board : Board) (x : State) (i : ℕ) → IsWithin board → i < board.shape.sources → Kept board x
-    → Own i (places_of board (board.queue_of i)) (length (board.readings i)) (λ n. x.word (places.Slot (board.queue_of i) n)) (x.word (Tail (board.queue_of i))) (x.word (Src i)) (x.word (Ack i)) (x.model.queue (board.queue_of i)) (x.model.source i)
+    → Own i (places_for board i) (length (board.readings i)) (slots_of x (board.queue_of i)) (near board x i)
 own_of board x i w lt h =
     let ordered = λ (j : ℕ). (h.sources j).ordered in
     record {
@@ -43,7 +43,7 @@ own_of board x i w lt h =
 -- a step of source i that leaves its queue, and what it has accepted, alone
 pub kept_own : (board : Board) (x y : State) (i src : ℕ) (s : Source) (row : Row) → Becomes (Src i) src x.word y.word → SourceBecomes i s x.model y.model → Becomes i row x.row y.row
     → s.accepted ≡ (x.model.source i).accepted → IsOrdered (length (board.readings i)) s → Stored src s
-    → Knows i (places_of board (board.queue_of i)) (length (board.readings i)) (x.word (Tail (board.queue_of i))) src (x.word (Ack i)) (x.model.queue (board.queue_of i)) s row
+    → Knows i (places_for board i) (length (board.readings i)) (record (near board x i) { src = src; source = s }) row
     → Kept board x → Kept board y
 kept_own board x y i src s row word model rows accepted ordered stored knows h = record {
   queues = λ t. queue_part board x y t (λ n. word.elsewhere (places.Slot t n) (λ e. cc)) (word.elsewhere (Tail t) (λ e. cc)) (queue t) (h.queues t);
@@ -52,8 +52,8 @@ kept_own board x y i src s row word model rows accepted ordered stored knows h =
     | inr other ↦ ap (λ (z : Source). z.accepted) (model.source.elsewhere j other)
   ]) (h.events t);
   sources = λ j. elim (cases_eq j i) [
-    | inl same ↦ subst (λ (k : ℕ). SourceKept k (places_of board (board.queue_of k)) (length (board.readings k)) (near board y k) (y.row k)) (sym same)
-        (source_as {n = record (near board x i) { src = src; source = s }} (record { stands = source_store i (x.word (Src i)) src (x.word (Ack i)) (x.model.queue (board.queue_of i)) (x.model.source i) s accepted stored (h.sources i).stands; ordered = ordered; knows = knows })
+    | inl same ↦ subst (SourcePart board y) (sym same)
+        (source_as {n = record (near board x i) { src = src; source = s }} (record { stands = source_store (h.sources i).stands src s accepted stored; ordered = ordered; knows = knows })
         (near_is board y i (tail i) word.here (ack i) (queue (board.queue_of i)) model.source.here) rows.here)
     | inr other ↦ source_as (h.sources j) (near_is board y j (tail j) (word.elsewhere (Src j) (λ e. other (let same : j ≡ i = cc in same))) (ack j) (queue (board.queue_of j)) (model.source.elsewhere j other)) (rows.elsewhere j other)
   ];
@@ -67,3 +67,7 @@ kept_own board x y i src s row word model rows accepted ordered stored knows h =
 
     ack : (j : ℕ) → y.word (Ack j) ≡ x.word (Ack j)
     ack j = word.elsewhere (Ack j) (λ e. cc)
+
+-- the slots of one queue
+pub slots_become : (x y : State) {t n v : ℕ} → Becomes (places.Slot t n) v x.word y.word → Becomes n v (slots_of x t) (slots_of y t)
+slots_become x y {t} {n} b = record { here = b.here; elsewhere = λ m other. b.elsewhere (places.Slot t m) (λ f. other (let same : m ≡ n = cc in same)) }

@@ -9,7 +9,8 @@ pub mod Own
 pub mod Counts
 pub mod Frames
 pub mod Nears
-pub mod Moves
+pub mod SourceMoves
+pub mod KernelMoves
 pub mod Steps
 pub mod Journals
 pub mod Runs

@@ -23,7 +23,7 @@ module _ {places : ℕ} {slot : ℕ → ℕ} {tail : ℕ} {q : Queue} (h : Stand
   -- The slot of the last released position shows another position. So a boot that finds an event of the position before the
   -- number of finished ones has found one that is finished and not released.
   pub released_gone : (f : ℕ) → suc f ≡ q.released → 0 < places → (x : ℕ) (i : SourceId) (c v : ℕ) → slot_in (slot (f % places)) ≡ Some (Full x i c v) → x ≡ f → ⊥
-  released_gone f last some x i c v read is = by_slot (slot_is places slot tail q (f % places) h (mod-lt f some))
+  released_gone f last some x i c v read is = by_slot (slot_is h (f % places) (mod-lt f some))
     where
       by_slot : SlotIs places slot q (f % places) → ⊥
       by_slot (Holds k lt at word) =

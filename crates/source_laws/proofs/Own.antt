@@ -6,7 +6,7 @@ use Rattle.push_core.specs.declared.slot.Slot.{Slot}
 use Rattle.push_core.specs.declared.slot.Slot.TheVariants.{Empty, Full}
 use Rattle.push_core.specs.Slots.{slot_in}
 use Rattle.source_laws.specs.Slots.{full, empty, FitsSlot, full_slot, source_id}
-use Rattle.source_laws.specs.Model.{Queue, Source, published}
+use Rattle.source_laws.specs.Model.{Queue, Near, published}
 use Rattle.push_core.specs.Table.{src_word}
 use Rattle.source_laws.specs.Stands.{StandsQueue, StandsSource, event_at}
 use Rattle.push_core.specs.declared.stage.Stage.{Stage}
@@ -20,12 +20,12 @@ use Rattle.source_laws.proofs.Queues.{SlotIs, Holds, IsEmpty, slot_is}
 use Rattle.source_laws.proofs.Sources.{own_count, ack_behind, last_one, src_parts, stored_as}
 
 -- what is known of a source, its queue and its words
-pub record Own (i places readings : ℕ) (slot : ℕ → ℕ) (tail src ack : ℕ) (q : Queue) (s : Source) : Type 0 where
-  pub queue : StandsQueue places slot tail q
-  pub source : StandsSource i src ack q s
-  pub ordered : IsOrdered readings s
-  pub fits : (k : ℕ) → k < length q.held → FitsSlot (q.released + k) (event_at q.held k)
-  pub positions : q.released + places < 2 ^ 21
+pub record Own (i places readings : ℕ) (slot : ℕ → ℕ) (v : Near) : Type 0 where
+  pub queue : StandsQueue places slot v.tail v.queue
+  pub source : StandsSource i v
+  pub ordered : IsOrdered readings v.source
+  pub fits : (k : ℕ) → k < length v.queue.held → FitsSlot (v.queue.released + k) (event_at v.queue.held k)
+  pub positions : v.queue.released + places < 2 ^ 21
   pub some : 0 < places
   pub small : places ≤ 32
   pub few : readings ≤ 65535
@@ -54,27 +54,27 @@ or_second : (x y : Bool) → y ≡ true → (x || y) ≡ true
 or_second true y e = refl
 or_second false y e = e
 
-module _ {i places readings : ℕ} {slot : ℕ → ℕ} {tail src ack : ℕ} {q : Queue} {s : Source} (h : Own i places readings slot tail src ack q s) where
+module _ {i places readings : ℕ} {slot : ℕ → ℕ} {v : Near} (h : Own i places readings slot v) where
   -- what source i knows in a row, with these words
   abbrev KnowsNow : (a k : ℕ) → Stage → Type 0
-  KnowsNow a k stage = KnowsAt i places readings tail src ack q s a k stage
+  KnowsNow a k stage = KnowsAt i places readings v a k stage
 
-  accepted_small : s.accepted < 2 ^ 32
+  accepted_small : v.source.accepted < 2 ^ 32
   accepted_small = omega (arith, h.ordered.accepted, h.ordered.next, h.few)
 
   -- the load of SRC
-  pub own_src : KnowsNow (src % 2 ^ 32) (src / 2 ^ 32) (LoadSlots 0 false)
+  pub own_src : KnowsNow (v.src % 2 ^ 32) (v.src / 2 ^ 32) (LoadSlots 0 false)
   own_src =
       let st = h.source.stored in
       let small : st.0 < 2 ^ 32 = elim st.3 [ inl p ↦ omega (arith, p.0, accepted_small) | inr p ↦ omega (arith, p.0, accepted_small) ] in
       let parts = src_parts st.0 st.1 small in
-      let a-is : src % 2 ^ 32 ≡ st.0 = ap (λ x. x % 2 ^ 32) st.2 ∙ parts.0 in
-      let k-is : src / 2 ^ 32 ≡ st.1 = ap (λ x. x / 2 ^ 32) st.2 ∙ parts.1 in (
+      let a-is : v.src % 2 ^ 32 ≡ st.0 = ap (λ x. x % 2 ^ 32) st.2 ∙ parts.0 in
+      let k-is : v.src / 2 ^ 32 ≡ st.1 = ap (λ x. x / 2 ^ 32) st.2 ∙ parts.1 in (
         record {
           word = st.2 ∙ sym (λ j. src_word (a-is j) (k-is j));
           small = omega arith;
           seen_one = λ e. absurd (false≢true e);
-          unseen_one = λ one. elim (last_one i src ack (src % 2 ^ 32) q s h.source one) [
+          unseen_one = λ one. elim (last_one h.source (v.src % 2 ^ 32) one) [
             | inl x ↦ inr (inl (x.0, x.1, x.2, x.3, omega arith))
             | inr y ↦ inr (inr y)
           ];
@@ -83,43 +83,43 @@ module _ {i places readings : ℕ} {slot : ℕ → ℕ} {tail src ack : ℕ} {q 
       )
 
   -- what a word of the queue reads as
-  read_held : (n k : ℕ) → k < length q.held → slot n ≡ full (q.released + k) (event_at q.held k) → slot_in (slot n) ≡ Some (full_slot (q.released + k) (event_at q.held k))
-  read_held n k lt is = ap slot_in is ∙ slot_in-full (q.released + k) (event_at q.held k) (h.fits k lt)
+  read_held : (n k : ℕ) → k < length v.queue.held → slot n ≡ full (v.queue.released + k) (event_at v.queue.held k) → slot_in (slot n) ≡ Some (full_slot (v.queue.released + k) (event_at v.queue.held k))
+  read_held n k lt is = ap slot_in is ∙ slot_in-full (v.queue.released + k) (event_at v.queue.held k) (h.fits k lt)
 
-  read_free : (n p : ℕ) → p < q.released + places → slot n ≡ empty p → slot_in (slot n) ≡ Some (Empty p)
+  read_free : (n p : ℕ) → p < v.queue.released + places → slot n ≡ empty p → slot_in (slot n) ≡ Some (Empty p)
   read_free n p below is = ap slot_in is ∙ slot_in-empty p (omega (arith, h.positions))
 
   -- a slot shows an own event with the count a only where a counts as accepted
-  shows_one : (a n : ℕ) → SlotIs places slot q n → shows_own (source_id i) a (slot_in (slot n)) ≡ true → s.accepted ≡ a → ⊥
+  shows_one : (a n : ℕ) → SlotIs places slot v.queue n → shows_own (source_id i) a (slot_in (slot n)) ≡ true → v.source.accepted ≡ a → ⊥
   shows_one a n (Holds k lt at is) found same =
-      let t : ((event_at q.held k).source == i && (event_at q.held k).count == a % 64) ≡ true = sym (ap (shows_own (source_id i) a) (read_held n k lt is)) ∙ found in
+      let t : ((event_at v.queue.held k).source == i && (event_at v.queue.held k).count == a % 64) ≡ true = sym (ap (shows_own (source_id i) a) (read_held n k lt is)) ∙ found in
       let parts = and_parts _ _ t in
-      own_count i src ack a q s k h.source (omega (arith, h.queue.room, h.small)) lt (eqb-true _ _ parts.0) (eqb-true _ _ parts.1) same
+      own_count h.source a k (omega (arith, h.queue.room, h.small)) lt (eqb-true _ _ parts.0) (eqb-true _ _ parts.1) same
   shows_one a n (IsEmpty p above below at is) found same = false≢true (sym (ap (shows_own (source_id i) a) (read_free n p below is)) ∙ found)
 
   -- a slot shows the event that is ahead in it
-  shows_ahead : (a n j : ℕ) → j < length q.held → (event_at q.held j).source ≡ i → (event_at q.held j).count ≡ a % 64 → (q.released + j) % places ≡ n → shows_own (source_id i) a (slot_in (slot n)) ≡ true
+  shows_ahead : (a n j : ℕ) → j < length v.queue.held → (event_at v.queue.held j).source ≡ i → (event_at v.queue.held j).count ≡ a % 64 → (v.queue.released + j) % places ≡ n → shows_own (source_id i) a (slot_in (slot n)) ≡ true
   shows_ahead a n j lt own count at = ap (shows_own (source_id i) a) (read_held n j lt (ap slot (sym at) ∙ h.queue.full_slots j lt)) ∙ and_from _ _ (eq-eqb _ _ own) (eq-eqb _ _ count)
 
   -- the numbers of SRC are the source's, or one less
-  boots_as : (a k n : ℕ) (seen : Bool) → Boots i places src ack q s a k n seen → ((s.accepted ≡ a) × (s.next ≡ k)) ⊎ ((s.accepted ≡ suc a) × (s.next ≡ suc k))
-  boots_as a k n seen b = stored_as src a k s b.small accepted_small b.word h.source.stored
+  boots_as : (a k n : ℕ) (seen : Bool) → Boots i places v a k n seen → ((v.source.accepted ≡ a) × (v.source.next ≡ k)) ⊎ ((v.source.accepted ≡ suc a) × (v.source.next ≡ suc k))
+  boots_as a k n seen b = stored_as h.source a k b.small accepted_small b.word
 
   -- the load of one slot in the boot
-  boots_next : (a k n : ℕ) (seen : Bool) → n < places → Boots i places src ack q s a k n seen → Boots i places src ack q s a k (n + 1) (seen || shows_own (source_id i) a (slot_in (slot n)))
+  boots_next : (a k n : ℕ) (seen : Bool) → n < places → Boots i places v a k n seen → Boots i places v a k (n + 1) (seen || shows_own (source_id i) a (slot_in (slot n)))
   boots_next a k n seen lt b = record {
     word = b.word;
     small = b.small;
     seen_one = λ e. elim (boots_as a k n seen b) [
       | inl before ↦ elim (or_cases seen _ e) [
         | inl already ↦ b.seen_one already
-        | inr now ↦ absurd (shows_one a n (slot_is places slot tail q n h.queue lt) now before.0)
+        | inr now ↦ absurd (shows_one a n (slot_is h.queue n lt) now before.0)
       ]
       | inr late ↦ late.0
     ];
     unseen_one = λ one. elim (b.unseen_one one) [
       | inl before ↦ inl (or_first seen _ before)
-      | inr (inl x) ↦ elim (cases_eq ((q.released + x.0) % places) n) [
+      | inr (inl x) ↦ elim (cases_eq ((v.queue.released + x.0) % places) n) [
         | inl here ↦ inl (or_second seen _ (shows_ahead a n x.0 x.1 x.2 x.3 here))
         | inr beyond ↦ inr (inl (x.0, x.1, x.2, x.3, omega (arith, x.4, beyond)))
       ]
@@ -131,24 +131,24 @@ module _ {i places readings : ℕ} {slot : ℕ → ℕ} {tail src ack : ℕ} {q 
       → KnowsNow a k (after_boot_slot places n (seen || shows_own (source_id i) a (slot_in (slot n))))
   own_slots a k n seen b = by_test (nat_lt (n + 1) places) refl
     where
-      next : Boots i places src ack q s a k (n + 1) (seen || shows_own (source_id i) a (slot_in (slot n)))
+      next : Boots i places v a k (n + 1) (seen || shows_own (source_id i) a (slot_in (slot n)))
       next = boots_next a k n seen b.1 b.0
 
       by_test : (t : Bool) → nat_lt (n + 1) places ≡ t
           → KnowsNow a k (cond t (LoadSlots (n + 1) (seen || shows_own (source_id i) a (slot_in (slot n)))) (LoadAck (seen || shows_own (source_id i) a (slot_in (slot n)))))
       by_test true e = (next, ltb-true _ _ e)
-      by_test false e = subst (λ (m : ℕ). Boots i places src ack q s a k m (seen || shows_own (source_id i) a (slot_in (slot n)))) (let same : n + 1 ≡ places = omega (arith, ltb-false _ _ e, b.1) in same) next
+      by_test false e = subst (λ (m : ℕ). Boots i places v a k m (seen || shows_own (source_id i) a (slot_in (slot n)))) (let same : n + 1 ≡ places = omega (arith, ltb-false _ _ e, b.1) in same) next
 
   -- the load of ACK
-  pub own_ack : (a k : ℕ) (seen : Bool) → KnowsNow a k (LoadAck seen) → KnowsNow a k (after_ack a (nat_lt k readings) seen ack)
-  own_ack a k seen b = by_test (nat_lt k readings && (seen || ack == (a + 1) % 64)) refl
+  pub own_ack : (a k : ℕ) (seen : Bool) → KnowsNow a k (LoadAck seen) → KnowsNow a k (after_ack a (nat_lt k readings) seen v.ack)
+  own_ack a k seen b = by_test (nat_lt k readings && (seen || v.ack == (a + 1) % 64)) refl
     where
-      by_test : (t : Bool) → (nat_lt k readings && (seen || ack == (a + 1) % 64)) ≡ t → KnowsNow a k (cond t StoreAccepted LoadTail)
+      by_test : (t : Bool) → (nat_lt k readings && (seen || v.ack == (a + 1) % 64)) ≡ t → KnowsNow a k (cond t StoreAccepted LoadTail)
       by_test true e =
           elim (boots_as a k places seen b) [
             | inl before ↦ elim (or_cases seen _ (and_parts _ _ e).1) [
               | inl found ↦ absurd (omega (arith, b.seen_one found, before.0))
-              | inr acked ↦ absurd (ack_behind i src ack a q s h.source (omega (arith, h.queue.room, h.small)) (let f : ack ≡ (a + 1) % 64 = eqb-true _ _ acked in let e : ack ≡ suc a % 64 = omega arith in e) before.0)
+              | inr acked ↦ absurd (ack_behind h.source a (omega (arith, h.queue.room, h.small)) (let f : v.ack ≡ (a + 1) % 64 = eqb-true _ _ acked in let e : v.ack ≡ suc a % 64 = omega arith in e) before.0)
             ]
             | inr late ↦ record { word = b.word; accepted = late.0; next = late.1 }
           ]
@@ -157,88 +157,88 @@ module _ {i places readings : ℕ} {slot : ℕ → ℕ} {tail src ack : ℕ} {q 
             | inl before ↦ record { word = b.word; accepted = before.0; next = before.1 }
             | inr late ↦
                 let left : nat_lt k readings ≡ true = lt-ltb _ _ (omega (arith, late.1, h.ordered.next)) in
-                let found : (seen || ack == (a + 1) % 64) ≡ true = elim (b.unseen_one late.0) [
+                let found : (seen || v.ack == (a + 1) % 64) ≡ true = elim (b.unseen_one late.0) [
                   | inl before ↦ or_first seen _ before
-                  | inr (inl x) ↦ absurd (omega (arith, x.4, mod-lt (q.released + x.0) h.some))
-                  | inr (inr y) ↦ or_second seen _ (eq-eqb _ _ (let e : ack ≡ (a + 1) % 64 = omega (arith, y) in e))
+                  | inr (inl x) ↦ absurd (omega (arith, x.4, mod-lt (v.queue.released + x.0) h.some))
+                  | inr (inr y) ↦ or_second seen _ (eq-eqb _ _ (let e : v.ack ≡ (a + 1) % 64 = omega (arith, y) in e))
                 ] in
                 absurd (false≢true (sym e ∙ and_from _ _ left found))
           ]
 
   -- the load of TAIL
-  pub own_tail : (a k : ℕ) → k < readings → KnowsNow a k LoadTail → KnowsNow a k (LoadSlot tail)
+  pub own_tail : (a k : ℕ) → k < readings → KnowsNow a k LoadTail → KnowsNow a k (LoadSlot v.tail)
   own_tail a k left r = (r, left, omega arith)
 
-  tail_at_most : tail ≤ published q
+  tail_at_most : v.tail ≤ published v.queue
   tail_at_most = omega (arith, h.queue.tail_near)
 
-  look : (p : ℕ) → p ≤ tail → Look places slot tail q p
-  look p low = by_slot (slot_is places slot tail q (p % places) h.queue (mod-lt p h.some))
+  look : (p : ℕ) → p ≤ v.tail → Look places slot v.tail v.queue p
+  look p low = by_slot (slot_is h.queue (p % places) (mod-lt p h.some))
     where
-      by_slot : SlotIs places slot q (p % places) → Look places slot tail q p
+      by_slot : SlotIs places slot v.queue (p % places) → Look places slot v.tail v.queue p
       by_slot (IsEmpty x above below at is) =
           elim (cases_eq x p) [
             | inl same ↦ Free (is ∙ ap empty same) (read_free (p % places) x below is ∙ ap (λ (y : ℕ). Some (Empty y)) same) (omega (arith, tail_at_most)) (omega (arith, tail_at_most)) (omega (arith, tail_at_most))
             | inr other ↦
-                let before : p < published q = elim (cases_lt p (published q)) [
+                let before : p < published v.queue = elim (cases_lt p (published v.queue)) [
                   | inl lt ↦ lt
-                  | inr ge ↦ absurd (other (same_position places q.released x p (omega arith) below (omega (arith, tail_at_most)) (omega (arith, tail_at_most)) at))
+                  | inr ge ↦ absurd (other (same_position places v.queue.released x p (omega arith) below (omega (arith, tail_at_most)) (omega (arith, tail_at_most)) at))
                 ] in
                 let read = read_free (p % places) x below is in
-                Passed before (λ e. other (let e' : empty x ≡ empty p = sym is ∙ e in omega arith)) (λ y i c v r f. let e' : Some (Empty x) ≡ Some (Full y i c v) = sym read ∙ r in cc) (λ y r f. let e' : Some (Empty x) ≡ Some (Empty y) = sym read ∙ r in other (let same : x ≡ y = cc in same ∙ f))
+                Passed before (λ e. other (let e' : empty x ≡ empty p = sym is ∙ e in omega arith)) (λ y i c z r f. let e' : Some (Empty x) ≡ Some (Full y i c z) = sym read ∙ r in cc) (λ y r f. let e' : Some (Empty x) ≡ Some (Empty y) = sym read ∙ r in other (let same : x ≡ y = cc in same ∙ f))
           ]
       by_slot (Holds k lt at is) =
-          elim (cases_eq (q.released + k + places) p) [
+          elim (cases_eq (v.queue.released + k + places) p) [
             | inl turn ↦
-                let zero_k : q.released + k ≡ q.released = omega (arith, tail_at_most, h.queue.room) in
+                let zero_k : v.queue.released + k ≡ v.queue.released = omega (arith, tail_at_most, h.queue.room) in
                 let first : k ≡ 0 = omega arith in
-                Turn (read_held (p % places) k lt is ∙ ap (λ (y : ℕ). Some (full_slot (q.released + y) (event_at q.held y))) first ∙ ap (λ (y : ℕ). Some (full_slot y (event_at q.held 0))) (let e : q.released + 0 ≡ q.released = omega arith in e)) (omega (arith, tail_at_most, h.queue.room)) (omega (arith, tail_at_most, h.queue.room))
+                Turn (read_held (p % places) k lt is ∙ ap (λ (y : ℕ). Some (full_slot (v.queue.released + y) (event_at v.queue.held y))) first ∙ ap (λ (y : ℕ). Some (full_slot y (event_at v.queue.held 0))) (let e : v.queue.released + 0 ≡ v.queue.released = omega arith in e)) (omega (arith, tail_at_most, h.queue.room)) (omega (arith, tail_at_most, h.queue.room))
             | inr other ↦
-                let before : p < published q = elim (cases_lt p (published q)) [
+                let before : p < published v.queue = elim (cases_lt p (published v.queue)) [
                   | inl before ↦ before
-                  | inr ge ↦ elim (cases_lt (length q.held) places) [
-                    | inl free ↦ absurd (omega (arith, same_position places q.released (q.released + k) p (omega arith) (omega arith) (omega (arith, tail_at_most)) (omega (arith, tail_at_most)) at, tail_at_most))
+                  | inr ge ↦ elim (cases_lt (length v.queue.held) places) [
+                    | inl free ↦ absurd (omega (arith, same_position places v.queue.released (v.queue.released + k) p (omega arith) (omega arith) (omega (arith, tail_at_most)) (omega (arith, tail_at_most)) at, tail_at_most))
                     | inr full_now ↦
-                        let turn : q.released + places ≡ p = omega (arith, tail_at_most, h.queue.room) in
-                        let same : (q.released + k) % places ≡ q.released % places = at ∙ ap (λ y. y % places) (sym turn) ∙ next_turn places q.released in
-                        absurd (other (omega (arith, same_position places q.released (q.released + k) q.released (omega arith) (omega (arith, h.queue.room)) (omega arith) (omega (arith, h.some)) same)))
+                        let turn : v.queue.released + places ≡ p = omega (arith, tail_at_most, h.queue.room) in
+                        let same : (v.queue.released + k) % places ≡ v.queue.released % places = at ∙ ap (λ y. y % places) (sym turn) ∙ next_turn places v.queue.released in
+                        absurd (other (omega (arith, same_position places v.queue.released (v.queue.released + k) v.queue.released (omega arith) (omega (arith, h.queue.room)) (omega arith) (omega (arith, h.some)) same)))
                   ]
                 ] in
                 let read = read_held (p % places) k lt is in
-                Passed before (λ e. let e' : full (q.released + k) (event_at q.held k) ≡ empty p = sym is ∙ e in omega (arith, before, h.queue.room, h.positions)) (λ y i c v r f. let e' : Some (full_slot (q.released + k) (event_at q.held k)) ≡ Some (Full y i c v) = sym read ∙ r in let same : q.released + k ≡ y = cc in other (omega arith)) (λ y r f. let e' : Some (full_slot (q.released + k) (event_at q.held k)) ≡ Some (Empty y) = sym read ∙ r in cc)
+                Passed before (λ e. let e' : full (v.queue.released + k) (event_at v.queue.held k) ≡ empty p = sym is ∙ e in omega (arith, before, h.queue.room, h.positions)) (λ y i c z r f. let e' : Some (full_slot (v.queue.released + k) (event_at v.queue.held k)) ≡ Some (Full y i c z) = sym read ∙ r in let same : v.queue.released + k ≡ y = cc in other (omega arith)) (λ y r f. let e' : Some (full_slot (v.queue.released + k) (event_at v.queue.held k)) ≡ Some (Empty y) = sym read ∙ r in cc)
           ]
 
   -- the load of the tail's slot: without a refusal
   pub own_slot : (a k p : ℕ) → KnowsNow a k (LoadSlot p) → is_full_at places p (slot_in (slot (p % places))) ≡ false → KnowsNow a k (after_slot places p (slot_in (slot (p % places))))
   own_slot a k p r goes = by_look (look p r.2)
     where
-      by_look : Look places slot tail q p → KnowsNow a k (after_slot places p (slot_in (slot (p % places))))
+      by_look : Look places slot v.tail v.queue p → KnowsNow a k (after_slot places p (slot_in (slot (p % places))))
       by_look (Free is read at room tail-is) = subst (KnowsNow a k) (sym (ap (after_slot places p) read ∙ ap (λ (t : Bool). cond t (Publish p) (HelpTail p)) (eq-eqb p p refl))) (r.0, r.1, r.2, omega arith)
       by_look (Turn read at all) = absurd (true≢false (sym (ap (is_full_at places p) read ∙ eq-eqb _ _ at) ∙ goes))
       by_look (Passed before not_free not_full not_empty) = subst (KnowsNow a k) (sym (passed_row places p (slot_in (slot (p % places))) not_full not_empty)) (r.0, before)
 
   -- with one: the queue is full
-  pub own_refuse : (a k p : ℕ) → KnowsNow a k (LoadSlot p) → is_full_at places p (slot_in (slot (p % places))) ≡ true → (after_slot places p (slot_in (slot (p % places))) ≡ StoreSkip) × (length q.held ≡ places)
+  pub own_refuse : (a k p : ℕ) → KnowsNow a k (LoadSlot p) → is_full_at places p (slot_in (slot (p % places))) ≡ true → (after_slot places p (slot_in (slot (p % places))) ≡ StoreSkip) × (length v.queue.held ≡ places)
   own_refuse a k p r found = by_look (look p r.2)
     where
-      by_look : Look places slot tail q p → (after_slot places p (slot_in (slot (p % places))) ≡ StoreSkip) × (length q.held ≡ places)
+      by_look : Look places slot v.tail v.queue p → (after_slot places p (slot_in (slot (p % places))) ≡ StoreSkip) × (length v.queue.held ≡ places)
       by_look (Free is read at room tail-is) = absurd (false≢true (sym (ap (is_full_at places p) read) ∙ found))
       by_look (Turn read at all) = (ap (after_slot places p) read ∙ ap (λ (t : Bool). cond t StoreSkip (HelpTail p)) (eq-eqb _ _ at), all)
       by_look (Passed before not_free not_full not_empty) = absurd (true≢false (sym found ∙ passed_no places p (slot_in (slot (p % places))) not_full))
 
   -- the exchange that publishes: won
-  pub own_won : (p : ℕ) → p ≤ tail → slot (p % places) ≡ empty p → (published q ≡ p) × (length q.held < places) × (tail ≡ p)
+  pub own_won : (p : ℕ) → p ≤ v.tail → slot (p % places) ≡ empty p → (published v.queue ≡ p) × (length v.queue.held < places) × (v.tail ≡ p)
   own_won p low is = by_look (look p low)
     where
-      by_look : Look places slot tail q p → (published q ≡ p) × (length q.held < places) × (tail ≡ p)
+      by_look : Look places slot v.tail v.queue p → (published v.queue ≡ p) × (length v.queue.held < places) × (v.tail ≡ p)
       by_look (Free _ read at room tail-is) = (at, room, tail-is)
-      by_look (Turn read at all) = let e : Some (full_slot q.released (event_at q.held 0)) ≡ Some (Empty p) = sym read ∙ (ap slot_in is ∙ slot_in-empty p (omega (arith, tail_at_most, h.queue.room, h.positions))) in absurd cc
+      by_look (Turn read at all) = let e : Some (full_slot v.queue.released (event_at v.queue.held 0)) ≡ Some (Empty p) = sym read ∙ (ap slot_in is ∙ slot_in-empty p (omega (arith, tail_at_most, h.queue.room, h.positions))) in absurd cc
       by_look (Passed before not_free not_full not_empty) = absurd (not_free is)
 
   -- and lost
-  pub own_lost : (p : ℕ) → p ≤ tail → p < q.released + places → (slot (p % places) ≡ empty p → ⊥) → p < published q
+  pub own_lost : (p : ℕ) → p ≤ v.tail → p < v.queue.released + places → (slot (p % places) ≡ empty p → ⊥) → p < published v.queue
   own_lost p low below lost =
-      elim (cases_lt p (published q)) [
+      elim (cases_lt p (published v.queue)) [
         | inl before ↦ before
         | inr free ↦ absurd (lost (h.queue.empty_slots p free below))
       ]

@@ -10,7 +10,7 @@ use Rattle.fram_words.specs.Accesses.{at_address}
 use Rattle.fram_words.specs.Places as places
 use Rattle.fram_words.specs.Shape.{address}
 use Rattle.source_laws.specs.Slots.{empty, full}
-use Rattle.source_laws.specs.Model.{Board, event_of, places_of}
+use Rattle.source_laws.specs.Model.{places_for, Board, event_of}
 use Rattle.source_laws.specs.Rows.{access, access_at, port_of}
 
 slot_at : (board : Board) (t n : ℕ) → address board.shape (places.Slot t 0) + n ≡ address board.shape (places.Slot t n)
@@ -22,8 +22,8 @@ access_at-port board i a k LoadSrc = refl
 access_at-port board i a k (LoadSlots n seen) = ap (λ x. fram.Load x) (slot_at board (board.queue_of i) n)
 access_at-port board i a k (LoadAck seen) = refl
 access_at-port board i a k LoadTail = refl
-access_at-port board i a k (LoadSlot p) = ap (λ x. fram.Load x) (slot_at board (board.queue_of i) (p % places_of board (board.queue_of i)))
-access_at-port board i a k (Publish p) = ap (λ (x : ℕ). fram.Exchange x (empty p) (full p (event_of board i a k))) (slot_at board (board.queue_of i) (p % places_of board (board.queue_of i)))
+access_at-port board i a k (LoadSlot p) = ap (λ x. fram.Load x) (slot_at board (board.queue_of i) (p % places_for board i))
+access_at-port board i a k (Publish p) = ap (λ (x : ℕ). fram.Exchange x (empty p) (full p (event_of board i a k))) (slot_at board (board.queue_of i) (p % places_for board i))
 access_at-port board i a k (MoveTail p) = refl
 access_at-port board i a k (HelpTail p) = refl
 access_at-port board i a k StoreSkip = refl

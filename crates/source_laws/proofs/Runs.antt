@@ -1,10 +1,10 @@
 -- The invariant holds from the first image on, and the words then stand for the never-cut kernel.
-use Rattle.std.proofs.Common.{◌≡◌, inl, inr, ℕ, zero, suc, ◌/◌, ◌%◌, ◌^◌, ◌<◌, ◌==◌, cond, Bool, true, false, [], length, refl, ap, ◌∙◌, arith, mod-eq_of_lt}
+use Rattle.std.proofs.Common.{◌≡◌, ◌⊎◌, inl, inr, ℕ, zero, suc, ◌/◌, ◌%◌, ◌^◌, ◌<◌, ◌≤◌, ◌==◌, cond, Bool, true, false, length, refl, ap, ◌∙◌, arith, mod-eq_of_lt}
 use Rattle.fram_words.specs.Places.{Tail, Ack, Src}
 use Rattle.fram_words.specs.Places as places
-use Rattle.source_laws.specs.Model.{places_of, Board, Queue, Source, published}
+use Rattle.source_laws.specs.Model.{places_of, Board, Queue, Source, Near, open_queue, open_source, published}
 use Rattle.source_laws.specs.Stands.{Tells}
-use Rattle.source_laws.specs.Kept.{State, Kept, IsWithin, accepted_into}
+use Rattle.source_laws.specs.Kept.{State, Kept, near, slots_of, IsWithin, accepted_into}
 use Rattle.source_laws.specs.Steps.{IsFirst, IsRun}
 use Rattle.source_laws.proofs.Queues.{queue_same}
 use Rattle.source_laws.proofs.Sources.{stored_as, own_count, ack_behind, last_one}
@@ -13,13 +13,7 @@ use Rattle.source_laws.proofs.Frames.{own_of}
 use Rattle.source_laws.proofs.Nears.{near_is, source_as}
 use Rattle.source_laws.proofs.Steps.{kept_step}
 
-nothing : Queue
-nothing = record { held = []; finished = false; released = 0 }
-
-fresh : Source
-fresh = record { next = 0; accepted = 0; refused = false }
-
-none_accepted : (board : Board) (source : ℕ → Source) (t n : ℕ) → ((i : ℕ) → source i ≡ record { next = 0; accepted = 0; refused = false }) → 0 ≡ accepted_into board source t n
+none_accepted : (board : Board) (source : ℕ → Source) (t n : ℕ) → ((i : ℕ) → source i ≡ open_source) → 0 ≡ accepted_into board source t n
 none_accepted board source t zero h = refl
 none_accepted board source t (suc n) h =
     let none : (source n).accepted ≡ 0 = ap (λ (s : Source). s.accepted) (h n) in
@@ -32,15 +26,15 @@ none_accepted board source t (suc n) h =
 
 pub kept_first : (board : Board) (x : State) → IsFirst board x → Kept board x
 kept_first board x h = record {
-  queues = λ t. queue_same (places_of board t) (λ n. x.word (places.Slot t n)) (λ n. x.word (places.Slot t n)) 0 (x.word (Tail t)) (record { held = []; finished = false; released = 0 }) (x.model.queue t) (λ n. refl) (h.tails t) (h.queues t)
+  queues = λ t. queue_same {places = places_of board t} {slot = slots_of x t} {tail = 0} {q = open_queue}
       (record {
         room = omega arith;
         full_slots = λ k lt. absurd (omega arith);
         empty_slots = λ s above below. let lt : s < places_of board t = omega arith in ap (λ n. x.word (places.Slot t n)) (mod-eq_of_lt lt) ∙ h.slots t s lt;
         tail_near = inl (omega arith);
-      });
+      }) (λ n. refl) (h.tails t) (h.queues t);
   events = λ t. record { events = λ k lt. absurd (let n = ap (λ (q : Queue). length q.held) (h.queues t) in omega arith); number = ap published (h.queues t) ∙ none_accepted board x.model.source t board.shape.sources h.sources };
-  sources = λ i. source_as {n = record { tail = 0; src = 0; ack = 0; queue = record { held = []; finished = false; released = 0 }; source = record { next = 0; accepted = 0; refused = false } }}
+  sources = λ i. source_as {n = record { tail = 0; src = 0; ack = 0; queue = open_queue; source = open_source }}
       (record {
         stands = record { gone = 0; numbered = refl; ack_is = inl (omega arith); stored = (0, 0, omega arith, inl (refl, refl)) };
         ordered = record { accepted = omega arith; next = omega arith };
@@ -54,28 +48,28 @@ pub kept_run : (board : Board) (at : ℕ → State) → IsWithin board → IsRun
 kept_run board at w run zero = kept_first board (at zero) run.first
 kept_run board at w run (suc n) = kept_step board (at n) (at (suc n)) w (kept_run board at w run n) (run.steps n)
 
--- what the words of a source tell of it
-pub tells : (board : Board) (x : State) (i : ℕ) → IsWithin board → i < board.shape.sources → Kept board x → Tells i (x.word (Src i)) (x.word (Ack i)) (x.model.queue (board.queue_of i)) (x.model.source i)
-tells board x i w lt h = told (own_of board x i w lt h)
+-- SRC, ACK and the queue tell the numbers of a source
+told : {i places readings : ℕ} {slot : ℕ → ℕ} {n : Near} → Own i places readings slot n → Tells i n
+told {i} {places} {readings} {slot} {n} o = record {
+  one_more = λ seen. elim is [
+    | inl same ↦ absurd (elim seen [
+      | inl held ↦ own_count o.source (n.src % 2 ^ 32) held.0 few held.1 held.2 held.3 same.0
+      | inr acked ↦ ack_behind o.source (n.src % 2 ^ 32) few acked same.0
+    ])
+    | inr more ↦ more
+  ];
+  as_many = λ unseen. elim is [
+    | inl same ↦ same
+    | inr more ↦ absurd (unseen (last_one o.source (n.src % 2 ^ 32) more.0))
+  ];
+}
   where
-    a : ℕ
-    a = x.word (Src i) % 2 ^ 32
+    few : length n.queue.held ≤ 32
+    few = omega (arith, o.queue.room, o.small)
 
-    told : Own i (places_of board (board.queue_of i)) (length (board.readings i)) (λ n. x.word (places.Slot (board.queue_of i) n)) (x.word (Tail (board.queue_of i))) (x.word (Src i)) (x.word (Ack i)) (x.model.queue (board.queue_of i)) (x.model.source i)
-        → Tells i (x.word (Src i)) (x.word (Ack i)) (x.model.queue (board.queue_of i)) (x.model.source i)
-    told o =
-        let small : (x.model.source i).accepted < 2 ^ 32 = omega (arith, o.ordered.accepted, o.ordered.next, o.few) in
-        let is = stored_as (x.word (Src i)) (x.word (Src i) % 2 ^ 32) (x.word (Src i) / 2 ^ 32) (x.model.source i) (omega arith) small (omega arith) o.source.stored in
-        record {
-          one_more = λ seen. elim is [
-            | inl same ↦ absurd (elim seen [
-              | inl held ↦ own_count i (x.word (Src i)) (x.word (Ack i)) (x.word (Src i) % 2 ^ 32) (x.model.queue (board.queue_of i)) (x.model.source i) held.0 o.source (omega (arith, o.queue.room, o.small)) held.1 held.2 held.3 same.0
-              | inr acked ↦ ack_behind i (x.word (Src i)) (x.word (Ack i)) (x.word (Src i) % 2 ^ 32) (x.model.queue (board.queue_of i)) (x.model.source i) o.source (omega (arith, o.queue.room, o.small)) acked same.0
-            ])
-            | inr more ↦ more
-          ];
-          as_many = λ unseen. elim is [
-            | inl same ↦ same
-            | inr more ↦ absurd (unseen (last_one i (x.word (Src i)) (x.word (Ack i)) (x.word (Src i) % 2 ^ 32) (x.model.queue (board.queue_of i)) (x.model.source i) o.source more.0))
-          ];
-        }
+    is : ((n.source.accepted ≡ n.src % 2 ^ 32) × (n.source.next ≡ n.src / 2 ^ 32)) ⊎ ((n.source.accepted ≡ suc (n.src % 2 ^ 32)) × (n.source.next ≡ suc (n.src / 2 ^ 32)))
+    is = stored_as o.source (n.src % 2 ^ 32) (n.src / 2 ^ 32) (omega arith) (omega (arith, o.ordered.accepted, o.ordered.next, o.few)) (omega arith)
+
+-- what the words of a source tell of it
+pub tells : (board : Board) (x : State) (i : ℕ) → IsWithin board → i < board.shape.sources → Kept board x → Tells i (near board x i)
+tells board x i w lt h = told (own_of board x i w lt h)

@@ -5,9 +5,8 @@ use Rattle.fram_words.specs.Changes.{Becomes}
 use Rattle.fram_words.specs.Accesses.{Makes}
 use Rattle.push_core.specs.Slots.{slot_in}
 use Rattle.source_laws.specs.Slots.{full, empty}
-use Rattle.fram_words.specs.Places.{Place, Tail, Ack, Src}
-use Rattle.fram_words.specs.Places as places
-use Rattle.source_laws.specs.Model.{places_of, Board, Model, published, event_of, with_refused, with_skipped}
+use Rattle.fram_words.specs.Places.{Tail, Src}
+use Rattle.source_laws.specs.Model.{places_for, Board, Model, published, event_of, with_refused, with_skipped}
 use Rattle.source_laws.specs.Stands.{StandsQueue}
 use Rattle.push_core.specs.declared.row.Row.{Row}
 use Rattle.push_core.specs.declared.stage.Stage.{Stage}
@@ -16,13 +15,14 @@ use Rattle.push_core.specs.Table.{IsLeft, is_full_at, after_slot, row_at, src_wo
 use Rattle.push_core.specs.declared.point.Point.TheVariants as points
 use Rattle.source_laws.specs.Rows.{entry_of, access, take, entry, found, slot_place}
 use Rattle.source_laws.specs.Knows.{Knows}
-use Rattle.source_laws.specs.Kept.{State, Kept, IsWithin}
+use Rattle.source_laws.specs.Kept.{State, Kept, near, slots_of, IsWithin}
 use Rattle.source_laws.specs.Steps.{MayAdd, Adds, SourceStep, HasFinished, Step}
 use Rattle.source_laws.specs.Steps as steps
 use Rattle.source_laws.proofs.Queues.{queue_tail}
 use Rattle.source_laws.proofs.Own.{own_src, own_slots, own_ack, own_tail, own_slot, own_refuse, own_won, own_lost}
 use Rattle.source_laws.proofs.Frames.{own_of, kept_own}
-use Rattle.source_laws.proofs.Moves.{kept_tail, kept_push, kept_finish, kept_ack, kept_release, kept_apart}
+use Rattle.source_laws.proofs.SourceMoves.{kept_tail, kept_push}
+use Rattle.source_laws.proofs.KernelMoves.{kept_finish, kept_ack, kept_release, kept_apart}
 
 -- a table that stays
 unchanged : {K V : Type 0} (k : K) (old new : K → V) → new ≡ old → Becomes k (old k) old new
@@ -31,7 +31,7 @@ unchanged k old new same = record { here = ap (λ f. f k) same; elsewhere = λ j
 module _ (board : Board) (x y : State) (i : ℕ) (w : IsWithin board) (lt : i < board.shape.sources) (h : Kept board x) where
   -- what source i knows in a row
   abbrev At : Row → Type 0
-  At row = Knows i (places_of board (board.queue_of i)) (length (board.readings i)) (x.word (Tail (board.queue_of i))) (x.word (Src i)) (x.word (Ack i)) (x.model.queue (board.queue_of i)) (x.model.source i) row
+  At row = Knows i (places_for board i) (length (board.readings i)) (near board x i) row
 
   -- a step that changes the source's registers alone
   still : (row : Row) → y.word ≡ x.word → y.model ≡ x.model → Becomes i row x.row y.row → At row → Kept board y
@@ -42,25 +42,25 @@ module _ (board : Board) (x y : State) (i : ℕ) (w : IsWithin board) (lt : i < 
 
   -- the tail's exchange from p to the next position, p being published
   moved : (p : ℕ) (row : Row) → MatchBool (x.word (Tail (board.queue_of i)) == p) (Becomes (Tail (board.queue_of i)) (p + 1) x.word y.word) (y.word ≡ x.word) → y.model ≡ x.model → Becomes i row x.row y.row
-      → p < published (x.model.queue (board.queue_of i)) → ((tail : ℕ) → Knows i (places_of board (board.queue_of i)) (length (board.readings i)) tail (x.word (Src i)) (x.word (Ack i)) (x.model.queue (board.queue_of i)) (x.model.source i) row) → Kept board y
+      → p < published (x.model.queue (board.queue_of i)) → ((tail : ℕ) → Knows i (places_for board i) (length (board.readings i)) (record (near board x i) { tail = tail }) row) → Kept board y
   moved p row word model rows before knows = by_test (x.word (Tail (board.queue_of i)) == p) refl word
     where
       by_test : (b : Bool) → (x.word (Tail (board.queue_of i)) == p) ≡ b → MatchBool b (Becomes (Tail (board.queue_of i)) (p + 1) x.word y.word) (y.word ≡ x.word) → Kept board y
       by_test true e word =
           let at : x.word (Tail (board.queue_of i)) ≡ p = eqb-true _ _ e in
-          let stands : StandsQueue (places_of board (board.queue_of i)) (λ n. x.word (places.Slot (board.queue_of i) n)) (p + 1) (x.model.queue (board.queue_of i)) =
-          subst (λ (n : ℕ). StandsQueue (places_of board (board.queue_of i)) (λ n. x.word (places.Slot (board.queue_of i) n)) n (x.model.queue (board.queue_of i))) (let e : suc (x.word (Tail (board.queue_of i))) ≡ p + 1 = omega arith in e) (queue_tail (places_of board (board.queue_of i)) (λ n. x.word (places.Slot (board.queue_of i) n)) (x.word (Tail (board.queue_of i))) (x.model.queue (board.queue_of i)) (omega arith) (h.queues (board.queue_of i))) in
+          let stands : StandsQueue (places_for board i) (slots_of x (board.queue_of i)) (p + 1) (x.model.queue (board.queue_of i)) =
+          subst (λ (n : ℕ). StandsQueue (places_for board i) (slots_of x (board.queue_of i)) (n + 1) (x.model.queue (board.queue_of i))) at (queue_tail (h.queues (board.queue_of i)) (omega arith)) in
           kept_tail board x y i (p + 1) row word model rows (omega arith) stands (knows (p + 1)) h
       by_test false e word = still row word model rows (knows (x.word (Tail (board.queue_of i))))
 
   -- the load of the tail's slot
   looked : (a k p : ℕ) → At (row_at a k (LoadSlot p)) → y.word ≡ x.word
-      → Becomes i (row_at a k (after_slot (places_of board (board.queue_of i)) p (slot_in (x.word (slot_place board i p))))) x.row y.row
+      → Becomes i (row_at a k (after_slot (places_for board i) p (slot_in (x.word (slot_place board i p))))) x.row y.row
       → Adds board (entry board i (row_at a k (LoadSlot p)) (x.word (slot_place board i p))) x.model y.model
       → MayAdd board (entry board i (row_at a k (LoadSlot p)) (x.word (slot_place board i p))) x.model × Kept board y
-  looked a k p knows word rows model = by_test (is_full_at (places_of board (board.queue_of i)) p (slot_in (x.word (slot_place board i p)))) refl model
+  looked a k p knows word rows model = by_test (is_full_at (places_for board i) p (slot_in (x.word (slot_place board i p)))) refl model
     where
-      by_test : (b : Bool) → is_full_at (places_of board (board.queue_of i)) p (slot_in (x.word (slot_place board i p))) ≡ b → Adds board (entry_of i (cond b points.Refused points.Nothing)) x.model y.model → MayAdd board (entry_of i (cond b points.Refused points.Nothing)) x.model × Kept board y
+      by_test : (b : Bool) → is_full_at (places_for board i) p (slot_in (x.word (slot_place board i p))) ≡ b → Adds board (entry_of i (cond b points.Refused points.Nothing)) x.model y.model → MayAdd board (entry_of i (cond b points.Refused points.Nothing)) x.model × Kept board y
       by_test true e model =
           let found = own_refuse (own_of board x i w lt h) a k p knows e in (
             (omega (arith, knows.0.next, knows.1), found.1),

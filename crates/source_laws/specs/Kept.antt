@@ -3,7 +3,7 @@ use Rattle.std.specs.Prelude.{◌≡◌, ℕ, zero, suc, ◌+◌, ◌^◌, ◌<�
 use Rattle.source_laws.specs.QueueEvent.{QueueEvent}
 use Rattle.fram_words.specs.Places.{Place, Tail, Ack, Src}
 use Rattle.fram_words.specs.Places as places
-use Rattle.source_laws.specs.Model.{places_of, Board, Queue, Source, Model, published}
+use Rattle.source_laws.specs.Model.{places_of, places_for, Board, Queue, Source, Near, Model, published}
 use Rattle.source_laws.specs.Stands.{StandsQueue, StandsSource, Tells, event_at}
 use Rattle.push_core.specs.declared.row.Row.{Row}
 use Rattle.source_laws.specs.Knows.{Knows}
@@ -13,7 +13,7 @@ pub record IsWithin (board : Board) : Type 0 where
   pub sources : board.shape.sources ≤ 16
   pub readings : (i : ℕ) → length (board.readings i) ≤ 65535
   pub values : (i k : ℕ) → slice_index (board.readings i) k < 2 ^ 32
-  pub places : (i : ℕ) → i < board.shape.sources → 0 < places_of board (board.queue_of i)
+  pub places : (i : ℕ) → i < board.shape.sources → 0 < places_for board i
   pub no_more : (t : ℕ) → places_of board t ≤ 32
 
 -- the words, what they stand for, and where each source is in its table
@@ -34,9 +34,13 @@ pub record IsEvent (board : Board) (t : ℕ) (e : QueueEvent) : Type 0 where
   pub count : e.count < 64
   pub value : e.value < 2 ^ 32
 
+-- the words of a queue's slots
+abbrev pub slots_of : State → ℕ → ℕ → ℕ
+slots_of x t n = x.word (places.Slot t n)
+
 -- the part of one queue
 abbrev pub QueueKept : Board → State → ℕ → Type 0
-QueueKept board x t = StandsQueue (places_of board t) (λ n. x.word (places.Slot t n)) (x.word (Tail t)) (x.model.queue t)
+QueueKept board x t = StandsQueue (places_of board t) (slots_of x t) (x.word (Tail t)) (x.model.queue t)
 
 -- its events are those that its sources had accepted
 pub record EventsKept (board : Board) (queue : ℕ → Queue) (source : ℕ → Source) (t : ℕ) : Type 0 where
@@ -48,29 +52,26 @@ pub record IsOrdered (readings : ℕ) (s : Source) : Type 0 where
   pub accepted : s.accepted ≤ s.next
   pub next : s.next ≤ readings
 
--- what source i can see of the board
-pub record Near : Type 0 where
-  pub tail : ℕ
-  pub src : ℕ
-  pub ack : ℕ
-  pub queue : Queue
-  pub source : Source
-
+-- what source i can see
 abbrev pub near : Board → State → ℕ → Near
 near board x i = record { tail = x.word (Tail (board.queue_of i)); src = x.word (Src i); ack = x.word (Ack i); queue = x.model.queue (board.queue_of i); source = x.model.source i }
 
 -- the part of one source, at a row of its table
 pub record SourceKept (i places readings : ℕ) (n : Near) (row : Row) : Type 0 where
-  pub stands : StandsSource i n.src n.ack n.queue n.source
+  pub stands : StandsSource i n
   pub ordered : IsOrdered readings n.source
-  pub knows : Knows i places readings n.tail n.src n.ack n.queue n.source row
+  pub knows : Knows i places readings n row
+
+-- and in a state
+abbrev pub SourcePart : Board → State → ℕ → Type 0
+SourcePart board x i = SourceKept i (places_for board i) (length (board.readings i)) (near board x i) (x.row i)
 
 pub record Kept (board : Board) (x : State) : Type 0 where
   pub queues : (t : ℕ) → QueueKept board x t
   pub events : (t : ℕ) → EventsKept board x.model.queue x.model.source t
-  pub sources : (i : ℕ) → SourceKept i (places_of board (board.queue_of i)) (length (board.readings i)) (near board x i) (x.row i)
+  pub sources : (i : ℕ) → SourcePart board x i
 
 -- the words of queues and sources stand for those of the never-cut kernel
 pub record Stands (board : Board) (x : State) : Type 0 where
   pub queues : (t : ℕ) → QueueKept board x t
-  pub sources : (i : ℕ) → i < board.shape.sources → Tells i (x.word (Src i)) (x.word (Ack i)) (x.model.queue (board.queue_of i)) (x.model.source i)
+  pub sources : (i : ℕ) → i < board.shape.sources → Tells i (near board x i)

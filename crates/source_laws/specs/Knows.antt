@@ -1,22 +1,26 @@
 -- What the registers of a source know between two accesses.
 use Rattle.std.specs.Prelude.{◌≡◌, ◌⊎◌, ℕ, suc, ◌+◌, ◌%◌, ◌^◌, ◌<◌, ◌≤◌, Bool, true, length}
-use Rattle.source_laws.specs.Model.{Queue, Source, published}
+use Rattle.source_laws.specs.Model.{Queue, Source, Near, published}
 use Rattle.push_core.specs.Table.{src_word}
 use Rattle.push_core.specs.declared.stage.Stage.{Stage}
-use Rattle.source_laws.specs.Stands.{event_at}
-use Rattle.push_core.specs.declared.row.Row.{Row}
 use Rattle.push_core.specs.declared.stage.Stage.TheVariants.{LoadSrc, LoadSlots, LoadAck, LoadTail, LoadSlot, Publish, MoveTail, HelpTail, StoreSkip, StoreAccepted}
+use Rattle.push_core.specs.declared.row.Row.{Row}
+use Rattle.source_laws.specs.Stands.{event_at}
 
 -- an event of source i with the number a stands in a slot from n on
-abbrev pub IsAhead : ℕ → ℕ → Queue → ℕ → ℕ → Type 0
+abbrev pub IsAhead : (i places : ℕ) → Queue → (a n : ℕ) → Type 0
 IsAhead i places q a n = (j : ℕ) × (j < length q.held) × ((event_at q.held j).source ≡ i) × ((event_at q.held j).count ≡ a % 64) × (n ≤ (q.released + j) % places)
 
--- in the boot, before the load of slot n: the source's event with number a was seen, is still to be seen, or isn't there
-pub record Boots (i places : ℕ) (src ack : ℕ) (q : Queue) (s : Source) (a k n : ℕ) (seen : Bool) : Type 0 where
-  pub word : src ≡ src_word a k
+-- the source's event with the number a stands in a slot from this one on, or is acknowledged
+abbrev pub IsShown : (i places : ℕ) → Near → (a slot : ℕ) → Type 0
+IsShown i places n a slot = IsAhead i places n.queue a slot ⊎ (n.ack ≡ suc a % 64)
+
+-- in the boot, before the load of a slot: the source's event with number a was seen, is still to be seen, or isn't there
+pub record Boots (i places : ℕ) (n : Near) (a k slot : ℕ) (seen : Bool) : Type 0 where
+  pub word : n.src ≡ src_word a k
   pub small : a < 2 ^ 32
-  pub seen_one : seen ≡ true → s.accepted ≡ suc a
-  pub unseen_one : s.accepted ≡ suc a → (seen ≡ true) ⊎ (IsAhead i places q a n ⊎ (ack ≡ suc a % 64))
+  pub seen_one : seen ≡ true → n.source.accepted ≡ suc a
+  pub unseen_one : n.source.accepted ≡ suc a → (seen ≡ true) ⊎ IsShown i places n a slot
 
 -- SRC and the registers count all that was accepted and settled
 pub record IsReady (src : ℕ) (s : Source) (a k : ℕ) : Type 0 where
@@ -30,18 +34,18 @@ pub record IsLate (src : ℕ) (s : Source) (a k : ℕ) : Type 0 where
   pub accepted : s.accepted ≡ suc a
   pub next : s.next ≡ suc k
 
--- what source i knows in each row; readings is the number of its readings
-abbrev pub KnowsAt : (i places readings tail src ack : ℕ) → Queue → Source → (a k : ℕ) → Stage → Type 0
-KnowsAt i places readings tail src ack q s a k LoadSrc = Unit {0}
-KnowsAt i places readings tail src ack q s a k (LoadSlots n seen) = Boots i places src ack q s a k n seen × (n < places)
-KnowsAt i places readings tail src ack q s a k (LoadAck seen) = Boots i places src ack q s a k places seen
-KnowsAt i places readings tail src ack q s a k LoadTail = IsReady src s a k
-KnowsAt i places readings tail src ack q s a k (LoadSlot p) = IsReady src s a k × (k < readings) × (p ≤ tail)
-KnowsAt i places readings tail src ack q s a k (Publish p) = IsReady src s a k × (k < readings) × (p ≤ tail) × (p < q.released + places)
-KnowsAt i places readings tail src ack q s a k (MoveTail p) = IsLate src s a k × (p < published q)
-KnowsAt i places readings tail src ack q s a k (HelpTail p) = IsReady src s a k × (p < published q)
-KnowsAt i places readings tail src ack q s a k StoreSkip = IsReady src s a k × (s.refused ≡ true) × (k < readings)
-KnowsAt i places readings tail src ack q s a k StoreAccepted = IsLate src s a k
+-- what source i knows in each row, with the accepted number a and the next reading k
+abbrev pub KnowsAt : (i places readings : ℕ) → Near → (a k : ℕ) → Stage → Type 0
+KnowsAt i places readings n a k LoadSrc = Unit {0}
+KnowsAt i places readings n a k (LoadSlots slot seen) = Boots i places n a k slot seen × (slot < places)
+KnowsAt i places readings n a k (LoadAck seen) = Boots i places n a k places seen
+KnowsAt i places readings n a k LoadTail = IsReady n.src n.source a k
+KnowsAt i places readings n a k (LoadSlot p) = IsReady n.src n.source a k × (k < readings) × (p ≤ n.tail)
+KnowsAt i places readings n a k (Publish p) = IsReady n.src n.source a k × (k < readings) × (p ≤ n.tail) × (p < n.queue.released + places)
+KnowsAt i places readings n a k (MoveTail p) = IsLate n.src n.source a k × (p < published n.queue)
+KnowsAt i places readings n a k (HelpTail p) = IsReady n.src n.source a k × (p < published n.queue)
+KnowsAt i places readings n a k StoreSkip = IsReady n.src n.source a k × (n.source.refused ≡ true) × (k < readings)
+KnowsAt i places readings n a k StoreAccepted = IsLate n.src n.source a k
 
-abbrev pub Knows : (i places readings tail src ack : ℕ) → Queue → Source → Row → Type 0
-Knows i places readings tail src ack q s row = KnowsAt i places readings tail src ack q s row.accepted row.next row.stage
+abbrev pub Knows : (i places readings : ℕ) → Near → Row → Type 0
+Knows i places readings n row = KnowsAt i places readings n row.accepted row.next row.stage

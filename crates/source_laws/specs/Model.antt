@@ -14,6 +14,10 @@ pub record Board : Type 0 where
 abbrev pub places_of : Board → ℕ → ℕ
 places_of board t = slice_index board.shape.queues t
 
+-- the places of a source's queue
+abbrev pub places_for : Board → ℕ → ℕ
+places_for board i = places_of board (board.queue_of i)
+
 -- the events that were accepted and not released, whether the first of them is finished, and the number of those released
 pub record Queue : Type 0 where
   pub held : List QueueEvent
@@ -26,9 +30,24 @@ pub record Source : Type 0 where
   pub accepted : ℕ
   pub refused : Bool
 
+-- what a source can see of the board: its queue's TAIL, its SRC and ACK, its queue, and itself
+pub record Near : Type 0 where
+  pub tail : ℕ
+  pub src : ℕ
+  pub ack : ℕ
+  pub queue : Queue
+  pub source : Source
+
 pub record Model : Type 0 where
   pub queue : ℕ → Queue
   pub source : ℕ → Source
+
+-- nothing accepted, and nothing settled
+abbrev pub open_queue : Queue
+open_queue = record { held = []; finished = false; released = 0 }
+
+abbrev pub open_source : Source
+open_source = record { next = 0; accepted = 0; refused = false }
 
 -- the number of events that a queue has accepted; also the position of its next one
 abbrev pub published : Queue → ℕ
@@ -73,8 +92,8 @@ held_for board m i = length (m.queue (board.queue_of i)).held
 
 -- the entry may be made now
 abbrev pub IsLegal : Board → Model → Entry → Type 0
-IsLegal board m (Push i) = HasReading board m i × (held_for board m i < places_of board (board.queue_of i))
-IsLegal board m (Refuse i) = HasReading board m i × (held_for board m i ≡ places_of board (board.queue_of i))
+IsLegal board m (Push i) = HasReading board m i × (held_for board m i < places_for board i)
+IsLegal board m (Refuse i) = HasReading board m i × (held_for board m i ≡ places_for board i)
 IsLegal board m (Skip i) = (m.source i).refused ≡ true
 IsLegal board m (Finish t) = ((m.queue t).finished ≡ false) × (0 < length (m.queue t).held)
 IsLegal board m (Release t) = (m.queue t).finished ≡ true

@@ -11,11 +11,11 @@ use Rattle.source_laws.specs.Slots.{full, empty, source_id}
 use Rattle.fram_words.specs.Places.{Place, Tail, Ack, Src, Access, Load, Store, Exchange, place_of}
 use Rattle.fram_words.specs.Shape.{address}
 use Rattle.fram_words.specs.Places as places
-use Rattle.source_laws.specs.Model.{Board, Entry, Push, Refuse, Skip, event_of, places_of}
+use Rattle.source_laws.specs.Model.{places_for, Board, Entry, Push, Refuse, Skip, event_of}
 
 -- the slot of a position in the queue of source i
 abbrev pub slot_place : Board → ℕ → ℕ → Place
-slot_place board i p = places.Slot (board.queue_of i) (p % places_of board (board.queue_of i))
+slot_place board i p = places.Slot (board.queue_of i) (p % places_for board i)
 
 -- the access of each row
 abbrev pub access_at : Board → (i a k : ℕ) → Stage → Access
@@ -37,7 +37,7 @@ access board i row = access_at board i row.accepted row.next row.stage
 abbrev pub port_of : Board → ℕ → Port
 port_of board i = record {
   source = source_id i;
-  queue = record { tail = address board.shape (Tail (board.queue_of i)); slots = address board.shape (places.Slot (board.queue_of i) 0); places = places_of board (board.queue_of i) };
+  queue = record { tail = address board.shape (Tail (board.queue_of i)); slots = address board.shape (places.Slot (board.queue_of i) 0); places = places_for board i };
   ack = address board.shape (Ack i);
   src = address board.shape (Src i);
 }
@@ -55,7 +55,7 @@ entry_of i points.Skipped = Some (Skip i)
 
 -- the entry that the access adds to the journal
 abbrev pub entry : Board → ℕ → Row → ℕ → Option Entry
-entry board i row word = entry_of i (point_of (places_of board (board.queue_of i)) row.stage word)
+entry board i row word = entry_of i (point_of (places_for board i) row.stage word)
 
 -- the word that the access of the row finds
 abbrev pub found : Board → (Place → ℕ) → ℕ → Row → ℕ

@@ -4,7 +4,7 @@ use Rattle.std.specs.Bool.{MatchBool}
 use Rattle.push_core.specs.Table.{src_word}
 use Rattle.source_laws.specs.QueueEvent.{QueueEvent}
 use Rattle.source_laws.specs.Slots.{full, empty}
-use Rattle.source_laws.specs.Model.{Queue, Source, published}
+use Rattle.source_laws.specs.Model.{Queue, Source, Near, published}
 
 abbrev pub no_event : QueueEvent
 no_event = record { source = 0; count = 0; value = 0 }
@@ -34,20 +34,24 @@ pub record IsFinishing (i : ℕ) (q : Queue) : Type 0 where
 abbrev pub Stored : ℕ → Source → Type 0
 Stored src s = (a : ℕ) × (k : ℕ) × (src ≡ src_word a k) × (((s.accepted ≡ a) × (s.next ≡ k)) ⊎ ((s.accepted ≡ suc a) × (s.next ≡ suc k)))
 
--- a source's two words stand for the source, its queue being q
-pub record StandsSource (i : ℕ) (src ack : ℕ) (q : Queue) (s : Source) : Type 0 where
+-- a source's two words stand for the source
+pub record StandsSource (i : ℕ) (n : Near) : Type 0 where
   -- the number of the source's events that were released
   pub gone : ℕ
-  pub numbered : Numbered i q.held gone s.accepted
-  pub ack_is : (ack ≡ gone % 64) ⊎ (IsFinishing i q × (ack ≡ suc gone % 64))
-  pub stored : Stored src s
+  pub numbered : Numbered i n.queue.held gone n.source.accepted
+  pub ack_is : (n.ack ≡ gone % 64) ⊎ (IsFinishing i n.queue × (n.ack ≡ suc gone % 64))
+  pub stored : Stored n.src n.source
 
 -- an event of source i with the number a is held
 abbrev pub HoldsNumber : ℕ → List QueueEvent → ℕ → Type 0
 HoldsNumber i held a = (j : ℕ) × (j < length held) × ((event_at held j).source ≡ i) × ((event_at held j).count ≡ a % 64)
 
--- What SRC, ACK and the held events tell of a source: where a held event has the count of the number in SRC,
--- or ACK is one more, then one more reading is accepted and settled than SRC says; else as many as it says.
-pub record Tells (i src ack : ℕ) (q : Queue) (s : Source) : Type 0 where
-  pub one_more : HoldsNumber i q.held (src % 2 ^ 32) ⊎ (ack ≡ suc (src % 2 ^ 32) % 64) → (s.accepted ≡ suc (src % 2 ^ 32)) × (s.next ≡ suc (src / 2 ^ 32))
-  pub as_many : (HoldsNumber i q.held (src % 2 ^ 32) ⊎ (ack ≡ suc (src % 2 ^ 32) % 64) → ⊥) → (s.accepted ≡ src % 2 ^ 32) × (s.next ≡ src / 2 ^ 32)
+-- the queue holds the event after those that SRC counts, or ACK counts it
+abbrev pub IsOneMore : ℕ → Near → Type 0
+IsOneMore i n = HoldsNumber i n.queue.held (n.src % 2 ^ 32) ⊎ (n.ack ≡ suc (n.src % 2 ^ 32) % 64)
+
+-- What SRC, ACK and the held events tell of a source: one more reading is accepted and settled than SRC says, where the queue or ACK
+-- has its event; else as many as SRC says.
+pub record Tells (i : ℕ) (n : Near) : Type 0 where
+  pub one_more : IsOneMore i n → (n.source.accepted ≡ suc (n.src % 2 ^ 32)) × (n.source.next ≡ suc (n.src / 2 ^ 32))
+  pub as_many : (IsOneMore i n → ⊥) → (n.source.accepted ≡ n.src % 2 ^ 32) × (n.source.next ≡ n.src / 2 ^ 32)

@@ -1,11 +1,11 @@
 -- The steps of a board, as far as its queues and sources go.
-use Rattle.std.specs.Prelude.{◌≡◌, ◌⊎◌, ℕ, suc, ◌+◌, ◌%◌, ◌<◌, true, false, [], length, Option, Some, None}
+use Rattle.std.specs.Prelude.{◌≡◌, ◌⊎◌, ℕ, suc, ◌+◌, ◌%◌, ◌<◌, true, length, Option, Some, None}
 use Rattle.fram_words.specs.Changes.{Becomes}
 use Rattle.fram_words.specs.Accesses.{Makes}
 use Rattle.source_laws.specs.Slots.{empty}
 use Rattle.fram_words.specs.Places.{Place, Tail, Ack, Src, IsShared}
 use Rattle.fram_words.specs.Places as places
-use Rattle.source_laws.specs.Model.{places_of, Board, Model, Entry, Finish, Release, IsLegal, Follows}
+use Rattle.source_laws.specs.Model.{places_of, Board, Model, open_queue, open_source, Entry, Finish, Release, IsLegal, Follows}
 use Rattle.source_laws.specs.Stands.{event_at}
 use Rattle.push_core.specs.Table.{IsLeft, first_row}
 use Rattle.source_laws.specs.Rows.{access, take, entry, found}
@@ -52,8 +52,8 @@ pub record IsFirst (board : Board) (x : State) : Type 0 where
   pub tails : (t : ℕ) → x.word (Tail t) ≡ 0
   pub acks : (i : ℕ) → x.word (Ack i) ≡ 0
   pub srcs : (i : ℕ) → x.word (Src i) ≡ 0
-  pub queues : (t : ℕ) → x.model.queue t ≡ record { held = []; finished = false; released = 0 }
-  pub sources : (i : ℕ) → x.model.source i ≡ record { next = 0; accepted = 0; refused = false }
+  pub queues : (t : ℕ) → x.model.queue t ≡ open_queue
+  pub sources : (i : ℕ) → x.model.source i ≡ open_source
   pub rows : (i : ℕ) → x.row i ≡ first_row
 
 -- any order of accesses and cuts, from the first image on

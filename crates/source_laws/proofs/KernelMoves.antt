@@ -1,0 +1,160 @@
+-- The kernel's changes keep the invariant: an event is finished, acknowledged and released; and so does a cut.
+use Rattle.std.proofs.Common.{◌≡◌, ◌⊎◌, inl, inr, ℕ, suc, ◌+◌, ◌%◌, ◌<◌, true, length, drop, refl, sym, ap, ◌∙◌, subst, arith, length-drop, one-add, get_or-drop}
+use Rattle.std.proofs.lemmas.Bool.{cases_eq}
+use Rattle.push_core.specs.Table.{first_row}
+use Rattle.push_core.specs.declared.row.Row.{Row}
+use Rattle.fram_words.specs.Changes.{Becomes}
+use Rattle.source_laws.specs.Slots.{empty}
+use Rattle.fram_words.specs.Places.{Place, Tail, Ack, Src, IsShared}
+use Rattle.fram_words.specs.Places as places
+use Rattle.source_laws.specs.Model.{places_for, Board, Queue, Source, Model, places_of, published, QueueBecomes, without_first, with_finished}
+use Rattle.source_laws.specs.Stands.{IsFinishing, event_at, no_event}
+use Rattle.source_laws.specs.Kept.{State, Kept, near, QueueKept, SourceKept, EventsKept, IsEvent, IsWithin, accepted_into}
+use Rattle.source_laws.proofs.Queues.{queue_same, queue_finish, queue_release}
+use Rattle.source_laws.proofs.Counts.{accepted_same}
+use Rattle.source_laws.proofs.Nears.{near_is, source_as, other_finish, own_acked, any_release}
+use Rattle.source_laws.proofs.Frames.{queue_part, events_part, slots_become}
+
+-- the events of one queue
+events_as : (board : Board) (queue : ℕ → Queue) (source : ℕ → Source) (t : ℕ) (q : Queue) → queue t ≡ q → published q ≡ accepted_into board source t board.shape.sources → ((k : ℕ) → k < length q.held → IsEvent board t (event_at q.held k)) → EventsKept board queue source t
+events_as board queue source t q is number events = record {
+  events = subst (λ (z : Queue). (k : ℕ) → k < length z.held → IsEvent board t (event_at z.held k)) (sym is) events;
+  number = ap published is ∙ number;
+}
+
+-- the first event of queue t is finished, by a commit
+pub kept_finish : (board : Board) (x y : State) (t0 : ℕ) → ((p : Place) → IsShared p → y.word p ≡ x.word p) → QueueBecomes t0 (with_finished (x.model.queue t0)) x.model y.model → y.row ≡ x.row → Kept board x → Kept board y
+kept_finish board x y t0 word model rows h = record {
+  queues = λ t. elim (cases_eq t t0) [
+    | inl same ↦ subst (QueueKept board y) (sym same)
+        (queue_same (queue_finish (h.queues t0)) (λ n. word (places.Slot t0 n) tt) (word (Tail t0) tt) model.queue.here)
+    | inr other ↦ queue_part board x y t (λ n. word (places.Slot t n) tt) (word (Tail t) tt) (model.queue.elsewhere t other) (h.queues t)
+  ];
+  events = λ t. elim (cases_eq t t0) [
+    | inl same ↦ subst (EventsKept board y.model.queue y.model.source) (sym same)
+        (events_as board y.model.queue y.model.source t0 (with_finished (x.model.queue t0)) model.queue.here ((h.events t0).number ∙ sym (accepted_same board x.model.source y.model.source t0 board.shape.sources (λ j _. ap (λ (z : Source). z.accepted) (source j)))) (h.events t0).events)
+    | inr other ↦ events_part board x y t (model.queue.elsewhere t other) (λ j _. ap (λ (z : Source). z.accepted) (source j)) (h.events t)
+  ];
+  sources = λ j. elim (cases_eq (board.queue_of j) t0) [
+    | inl here ↦ source_as (other_finish (h.sources j)) (near_is board y j (word (Tail (board.queue_of j)) tt) (word (Src j) tt) (word (Ack j) tt) (queue_here (board.queue_of j) here) (source j)) (row j)
+    | inr other ↦ source_as (h.sources j) (near_is board y j (word (Tail (board.queue_of j)) tt) (word (Src j) tt) (word (Ack j) tt) (model.queue.elsewhere (board.queue_of j) other) (source j)) (row j)
+  ];
+}
+  where
+    source : (j : ℕ) → y.model.source j ≡ x.model.source j
+    source j = ap (λ (f : ℕ → Source). f j) model.source
+
+    row : (j : ℕ) → y.row j ≡ x.row j
+    row j = ap (λ (f : ℕ → Row). f j) rows
+
+    queue_here : (t : ℕ) → t ≡ t0 → y.model.queue t ≡ with_finished (x.model.queue t)
+    queue_here t same = subst (λ (u : ℕ). y.model.queue u ≡ with_finished (x.model.queue u)) (sym same) model.queue.here
+
+-- the kernel acknowledges the finished event of queue t0
+pub kept_ack : (board : Board) (x y : State) (t0 : ℕ) → IsWithin board → (x.model.queue t0).finished ≡ true → 0 < length (x.model.queue t0).held
+    → Becomes (Ack (event_at (x.model.queue t0).held 0).source) (suc (event_at (x.model.queue t0).held 0).count % 64) x.word y.word → y.model ≡ x.model → y.row ≡ x.row → Kept board x → Kept board y
+kept_ack board x y t0 w finished some word model rows h = record {
+  queues = λ t. queue_part board x y t (λ n. word.elsewhere (places.Slot t n) (λ e. cc)) (tail t) (queue t) (h.queues t);
+  events = λ t. events_part board x y t (queue t) (λ j _. ap (λ (z : Source). z.accepted) (source j)) (h.events t);
+  sources = λ j. elim (cases_eq j (event_at (x.model.queue t0).held 0).source) [
+    | inl same ↦
+        source_as (own_acked (h.sources j) (y.word (Ack j)) (own j same) (omega (arith, (h.queues (board.queue_of j)).room, w.no_more (board.queue_of j))) (acked j same))
+        (near_is board y j (tail (board.queue_of j)) (src j) refl (queue (board.queue_of j)) (source j)) (row j)
+    | inr other ↦
+        source_as (h.sources j) (near_is board y j (tail (board.queue_of j)) (src j) (word.elsewhere (Ack j) (λ e. other (let same : j ≡ (event_at (x.model.queue t0).held 0).source = cc in same))) (queue (board.queue_of j)) (source j)) (row j)
+  ];
+}
+  where
+    queue : (t : ℕ) → y.model.queue t ≡ x.model.queue t
+    queue t = ap (λ (m : Model). m.queue t) model
+
+    source : (j : ℕ) → y.model.source j ≡ x.model.source j
+    source j = ap (λ (m : Model). m.source j) model
+
+    row : (j : ℕ) → y.row j ≡ x.row j
+    row j = ap (λ (f : ℕ → Row). f j) rows
+
+    tail : (t : ℕ) → y.word (Tail t) ≡ x.word (Tail t)
+    tail t = word.elsewhere (Tail t) (λ f. cc)
+
+    src : (j : ℕ) → y.word (Src j) ≡ x.word (Src j)
+    src j = word.elsewhere (Src j) (λ f. cc)
+
+    at_queue : (j : ℕ) → j ≡ (event_at (x.model.queue t0).held 0).source → board.queue_of j ≡ t0
+    at_queue j same = ap board.queue_of same ∙ ((h.events t0).events 0 some).queue
+
+    own : (j : ℕ) → j ≡ (event_at (x.model.queue t0).held 0).source → IsFinishing j (x.model.queue (board.queue_of j))
+    own j same = subst (λ (t : ℕ). IsFinishing j (x.model.queue t)) (sym (at_queue j same)) (record { finished = finished; some = some; own = sym same })
+
+    acked : (j : ℕ) → j ≡ (event_at (x.model.queue t0).held 0).source → y.word (Ack j) ≡ suc (event_at (x.model.queue (board.queue_of j)).held 0).count % 64
+    acked j same = ap (λ (k : ℕ). y.word (Ack k)) same ∙ word.here ∙ ap (λ (t : ℕ). suc (event_at (x.model.queue t).held 0).count % 64) (sym (at_queue j same))
+
+-- the kernel releases it, once it is acknowledged
+pub kept_release : (board : Board) (x y : State) (t0 : ℕ) → (x.model.queue t0).finished ≡ true → 0 < length (x.model.queue t0).held
+    → x.word (Ack (event_at (x.model.queue t0).held 0).source) ≡ suc (event_at (x.model.queue t0).held 0).count % 64
+    → Becomes (places.Slot t0 ((x.model.queue t0).released % places_of board t0)) (empty ((x.model.queue t0).released + places_of board t0)) x.word y.word
+    → QueueBecomes t0 (without_first (x.model.queue t0)) x.model y.model → y.row ≡ x.row → Kept board x → Kept board y
+kept_release board x y t0 finished some acked word model rows h = record {
+  queues = λ t. elim (cases_eq t t0) [
+    | inl same ↦ subst (QueueKept board y) (sym same)
+        (queue_same (queue_release (h.queues t0) some (slots_become x y word)) (λ n. refl) (tail t0) model.queue.here)
+    | inr other ↦ queue_part board x y t (λ n. word.elsewhere (places.Slot t n) (λ f. other (let same : t ≡ t0 = cc in same))) (tail t) (model.queue.elsewhere t other) (h.queues t)
+  ];
+  events = λ t. elim (cases_eq t t0) [
+    | inl same ↦ subst (EventsKept board y.model.queue y.model.source) (sym same)
+        (events_as board y.model.queue y.model.source t0 (without_first q) model.queue.here
+        (let n : suc q.released + length (drop 1 q.held) ≡ published q = omega (arith, length-drop 1 q.held) in n ∙ (h.events t0).number ∙ sym (accepted_same board x.model.source y.model.source t0 board.shape.sources (λ j _. ap (λ (z : Source). z.accepted) (source j))))
+        (λ k lt. subst (IsEvent board t0) (sym (get_or-drop 1 q.held k no_event ∙ ap (event_at q.held) (one-add k))) ((h.events t0).events (suc k) (omega (arith, lt, length-drop 1 q.held)))))
+    | inr other ↦ events_part board x y t (model.queue.elsewhere t other) (λ j _. ap (λ (z : Source). z.accepted) (source j)) (h.events t)
+  ];
+  sources = λ j. elim (cases_eq (board.queue_of j) t0) [
+    | inl here ↦ source_as (release_here j here) (near_is board y j (tail (board.queue_of j)) (src j) (ack j) (queue_here (board.queue_of j) here) (source j)) (row j)
+    | inr other ↦ source_as (h.sources j) (near_is board y j (tail (board.queue_of j)) (src j) (ack j) (model.queue.elsewhere (board.queue_of j) other) (source j)) (row j)
+  ];
+}
+  where
+    q : Queue
+    q = x.model.queue t0
+
+    source : (j : ℕ) → y.model.source j ≡ x.model.source j
+    source j = ap (λ (f : ℕ → Source). f j) model.source
+
+    row : (j : ℕ) → y.row j ≡ x.row j
+    row j = ap (λ (f : ℕ → Row). f j) rows
+
+    tail : (t : ℕ) → y.word (Tail t) ≡ x.word (Tail t)
+    tail t = word.elsewhere (Tail t) (λ f. cc)
+
+    src : (j : ℕ) → y.word (Src j) ≡ x.word (Src j)
+    src j = word.elsewhere (Src j) (λ f. cc)
+
+    ack : (j : ℕ) → y.word (Ack j) ≡ x.word (Ack j)
+    ack j = word.elsewhere (Ack j) (λ f. cc)
+
+    queue_here : (t : ℕ) → t ≡ t0 → y.model.queue t ≡ without_first (x.model.queue t)
+    queue_here t same = subst (λ (u : ℕ). y.model.queue u ≡ without_first (x.model.queue u)) (sym same) model.queue.here
+
+    release_here : (j : ℕ) → board.queue_of j ≡ t0 → SourceKept j (places_for board j) (length (board.readings j)) (record (near board x j) { queue = without_first (x.model.queue (board.queue_of j)) }) (x.row j)
+    release_here j here =
+        let can = subst (λ (p : Queue). (p.finished ≡ true) × (0 < length p.held) × ((event_at p.held 0).source ≡ j → x.word (Ack j) ≡ suc (event_at p.held 0).count % 64)) (sym (ap x.model.queue here)) (finished, some, λ same. ap (λ (k : ℕ). x.word (Ack k)) (sym same) ∙ acked) in
+        any_release (h.sources j) can.0 can.1 can.2
+
+-- a step that touches no word of a queue or a source; a cut also sends each source to its first row
+pub kept_apart : (board : Board) (x y : State) → ((p : Place) → IsShared p → y.word p ≡ x.word p) → y.model ≡ x.model → ((i : ℕ) → (y.row i ≡ x.row i) ⊎ (y.row i ≡ first_row)) → Kept board x → Kept board y
+kept_apart board x y word model rows h = record {
+  queues = λ t. queue_part board x y t (λ n. word (places.Slot t n) tt) (word (Tail t) tt) (queue t) (h.queues t);
+  events = λ t. events_part board x y t (queue t) (λ j _. ap (λ (z : Source). z.accepted) (source j)) (h.events t);
+  sources = λ j. elim (rows j) [
+    | inl same ↦ source_as (h.sources j) (near_same j) same
+    | inr first ↦ source_as (record { stands = (h.sources j).stands; ordered = (h.sources j).ordered; knows = tt }) (near_same j) first
+  ];
+}
+  where
+    queue : (t : ℕ) → y.model.queue t ≡ x.model.queue t
+    queue t = ap (λ (m : Model). m.queue t) model
+
+    source : (j : ℕ) → y.model.source j ≡ x.model.source j
+    source j = ap (λ (m : Model). m.source j) model
+
+    near_same : (j : ℕ) → near board y j ≡ near board x j
+    near_same j = near_is board y j (word (Tail (board.queue_of j)) tt) (word (Src j) tt) (word (Ack j) tt) (queue (board.queue_of j)) (source j)

@@ -1,0 +1,128 @@
+-- A source's changes of a word keep the invariant: the tail moves, and an event is published.
+use Rattle.std.proofs.Common.{◌≡◌, inl, inr, ℕ, suc, ◌+◌, ◌%◌, ◌<◌, ◌≤◌, [], ◌∷◌, ◌++◌, length, refl, sym, ap, ◌∙◌, subst, arith, length-append}
+use Rattle.std.proofs.lemmas.Bool.{cases_eq, cases_lt}
+use Rattle.std.proofs.lemmas.List.{get_or_append_left, get_or_push}
+use Rattle.push_core.specs.Table.{src_word}
+use Rattle.push_core.specs.declared.row.Row.{Row}
+use Rattle.fram_words.specs.Changes.{Becomes}
+use Rattle.source_laws.specs.QueueEvent.{QueueEvent}
+use Rattle.source_laws.specs.Slots.{full}
+use Rattle.fram_words.specs.Places.{Place, Tail, Ack, Src, IsShared}
+use Rattle.fram_words.specs.Places as places
+use Rattle.source_laws.specs.Model.{places_for, Board, Queue, Source, Model, published, BothBecome, event_of, with_event, with_accepted}
+use Rattle.source_laws.specs.Stands.{StandsQueue, event_at, no_event}
+use Rattle.source_laws.specs.Knows.{Knows}
+use Rattle.source_laws.specs.Kept.{State, Kept, near, slots_of, QueueKept, SourcePart, EventsKept, IsEvent, IsWithin, accepted_into}
+use Rattle.source_laws.proofs.Queues.{queue_same, queue_push}
+use Rattle.source_laws.proofs.Sources.{source_push_own, source_tail}
+use Rattle.source_laws.proofs.Counts.{accepted_more}
+use Rattle.source_laws.proofs.Nears.{near_is, source_as, other_tail, other_push}
+use Rattle.source_laws.proofs.Frames.{queue_part, events_part, slots_become}
+
+-- the tail of the queue of source i moves
+pub kept_tail : (board : Board) (x y : State) (i tail : ℕ) (row : Row) → Becomes (Tail (board.queue_of i)) tail x.word y.word → y.model ≡ x.model → Becomes i row x.row y.row
+    → x.word (Tail (board.queue_of i)) ≤ tail
+    → StandsQueue (places_for board i) (slots_of x (board.queue_of i)) tail (x.model.queue (board.queue_of i))
+    → Knows i (places_for board i) (length (board.readings i)) (record (near board x i) { tail = tail }) row
+    → Kept board x → Kept board y
+kept_tail board x y i tail row word model rows up stands knows h = record {
+  queues = λ t. elim (cases_eq t (board.queue_of i)) [
+    | inl same ↦ subst (QueueKept board y) (sym same)
+        (queue_same stands (λ n. word.elsewhere (places.Slot (board.queue_of i) n) (λ e. cc)) word.here (queue (board.queue_of i)))
+    | inr other ↦ queue_part board x y t (λ n. word.elsewhere (places.Slot t n) (λ e. cc)) (tail_other t other) (queue t) (h.queues t)
+  ];
+  events = λ t. events_part board x y t (queue t) (λ j _. ap (λ (z : Source). z.accepted) (source j)) (h.events t);
+  sources = λ j. elim (cases_eq j i) [
+    | inl same ↦ subst (SourcePart board y) (sym same)
+        (source_as {n = record (near board x i) { tail = tail }} (record { stands = source_tail (h.sources i).stands tail; ordered = (h.sources i).ordered; knows = knows })
+        (near_is board y i word.here (word.elsewhere (Src i) (λ e. cc)) (word.elsewhere (Ack i) (λ e. cc)) (queue (board.queue_of i)) (source i)) rows.here)
+    | inr other ↦ source_as (other_tail (h.sources j) (y.word (Tail (board.queue_of j))) (tail_up (board.queue_of j)))
+        (near_is board y j refl (word.elsewhere (Src j) (λ e. cc)) (word.elsewhere (Ack j) (λ e. cc)) (queue (board.queue_of j)) (source j)) (rows.elsewhere j other)
+  ];
+}
+  where
+    queue : (t : ℕ) → y.model.queue t ≡ x.model.queue t
+    queue t = ap (λ (m : Model). m.queue t) model
+
+    source : (j : ℕ) → y.model.source j ≡ x.model.source j
+    source j = ap (λ (m : Model). m.source j) model
+
+    tail_other : (t : ℕ) → (t ≡ board.queue_of i → ⊥) → y.word (Tail t) ≡ x.word (Tail t)
+    tail_other t other = word.elsewhere (Tail t) (λ e. other (let same : t ≡ board.queue_of i = cc in same))
+
+    tail_up : (t : ℕ) → x.word (Tail t) ≤ y.word (Tail t)
+    tail_up t = elim (cases_eq t (board.queue_of i)) [
+      | inl same ↦ subst (λ (u : ℕ). x.word (Tail u) ≤ y.word (Tail u)) (sym same) (omega (arith, up, word.here))
+      | inr other ↦ omega (arith, tail_other t other)
+    ]
+
+-- source i publishes its next reading at the tail
+pub kept_push : (board : Board) (x y : State) (i : ℕ) (row : Row) → i < board.shape.sources → IsWithin board
+    → length (x.model.queue (board.queue_of i)).held < places_for board i
+    → x.word (Tail (board.queue_of i)) ≡ published (x.model.queue (board.queue_of i))
+    → (x.model.source i).next < length (board.readings i)
+    → x.word (Src i) ≡ src_word (x.model.source i).accepted (x.model.source i).next
+    → Becomes (places.Slot (board.queue_of i) (published (x.model.queue (board.queue_of i)) % places_for board i)) (full (published (x.model.queue (board.queue_of i))) (event_of board i (x.model.source i).accepted (x.model.source i).next)) x.word y.word
+    → BothBecome (board.queue_of i) (with_event (x.model.queue (board.queue_of i)) (event_of board i (x.model.source i).accepted (x.model.source i).next)) i (with_accepted (x.model.source i)) x.model y.model
+    → Becomes i row x.row y.row
+    → Knows i (places_for board i) (length (board.readings i)) (record (near board x i) { queue = with_event (x.model.queue (board.queue_of i)) (event_of board i (x.model.source i).accepted (x.model.source i).next); source = with_accepted (x.model.source i) }) row
+    → Kept board x → Kept board y
+kept_push board x y i row within w room at left ready word both rows knows h = record {
+  queues = λ t. elim (cases_eq t t0) [
+    | inl same ↦ subst (QueueKept board y) (sym same)
+        (queue_same (queue_push (h.queues t0) e room at (slots_become x y word)) (λ n. refl) (tail t0) both.queue.here)
+    | inr other ↦ queue_part board x y t (λ n. word.elsewhere (places.Slot t n) (λ f. other (let same : t ≡ t0 = cc in same))) (tail t) (both.queue.elsewhere t other) (h.queues t)
+  ];
+  events = λ t. elim (cases_eq t t0) [
+    | inl same ↦ subst (EventsKept board y.model.queue y.model.source) (sym same) pushed_events
+    | inr other ↦ events_part board x y t (both.queue.elsewhere t other) (λ j of. ap (λ (z : Source). z.accepted) (both.source.elsewhere j (λ f. other (sym of ∙ ap board.queue_of f)))) (h.events t)
+  ];
+  sources = λ j. elim (cases_eq j i) [
+    | inl same ↦ subst (SourcePart board y) (sym same)
+        (source_as {n = record (near board x i) { queue = with_event q e; source = with_accepted s }}
+        (record { stands = source_push_own (h.sources i).stands e ready refl refl; ordered = record { accepted = omega (arith, (h.sources i).ordered.accepted); next = left }; knows = knows })
+        (near_is board y i (tail t0) (src i) (ack i) both.queue.here both.source.here) rows.here)
+    | inr other ↦ elim (cases_eq (board.queue_of j) t0) [
+      | inl here ↦ source_as (other_push (h.sources j) e (λ f. other (sym f))) (near_is board y j (tail (board.queue_of j)) (src j) (ack j) (queue_here (board.queue_of j) here) (both.source.elsewhere j other)) (rows.elsewhere j other)
+      | inr away ↦ source_as (h.sources j) (near_is board y j (tail (board.queue_of j)) (src j) (ack j) (both.queue.elsewhere (board.queue_of j) away) (both.source.elsewhere j other)) (rows.elsewhere j other)
+    ]
+  ];
+}
+  where
+    t0 : ℕ
+    t0 = board.queue_of i
+
+    q : Queue
+    q = x.model.queue (board.queue_of i)
+
+    s : Source
+    s = x.model.source i
+
+    e : QueueEvent
+    e = event_of board i (x.model.source i).accepted (x.model.source i).next
+
+    tail : (t : ℕ) → y.word (Tail t) ≡ x.word (Tail t)
+    tail t = word.elsewhere (Tail t) (λ f. cc)
+
+    src : (j : ℕ) → y.word (Src j) ≡ x.word (Src j)
+    src j = word.elsewhere (Src j) (λ f. cc)
+
+    ack : (j : ℕ) → y.word (Ack j) ≡ x.word (Ack j)
+    ack j = word.elsewhere (Ack j) (λ f. cc)
+
+    queue_here : (t : ℕ) → t ≡ board.queue_of i → y.model.queue t ≡ with_event (x.model.queue t) (event_of board i (x.model.source i).accepted (x.model.source i).next)
+    queue_here t same = subst (λ (u : ℕ). y.model.queue u ≡ with_event (x.model.queue u) (event_of board i (x.model.source i).accepted (x.model.source i).next)) (sym same) both.queue.here
+
+    pushed_events : EventsKept board y.model.queue y.model.source (board.queue_of i)
+    pushed_events =
+        let len : length (q.held ++ e ∷ []) ≡ suc (length q.held) = omega (arith, length-append q.held (e ∷ [])) in
+        let new : IsEvent board t0 e = record { source = within; queue = refl; count = omega arith; value = w.values i s.next } in
+        let more = accepted_more board x.model.source y.model.source i t0 board.shape.sources within refl (ap (λ (z : Source). z.accepted) both.source.here) (λ j other. ap (λ (z : Source). z.accepted) (both.source.elsewhere j other)) in
+        record {
+          events = subst (λ (z : Queue). (k : ℕ) → k < length z.held → IsEvent board t0 (event_at z.held k)) (sym both.queue.here) (λ k lt.
+              elim (cases_lt k (length q.held)) [
+                | inl before ↦ subst (IsEvent board t0) (sym (get_or_append_left q.held (e ∷ []) no_event k before)) ((h.events t0).events k before)
+                | inr last ↦ subst (IsEvent board t0) (sym (get_or_push q.held e no_event k (let same : length q.held ≡ k = omega arith in same))) new
+              ]);
+          number = ap published both.queue.here ∙ (let n : q.released + length (q.held ++ e ∷ []) ≡ suc (accepted_into board x.model.source t0 board.shape.sources) = omega (arith, len, (h.events t0).number) in n) ∙ sym more;
+        }
