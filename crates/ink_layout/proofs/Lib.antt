@@ -1,1 +1,4 @@
 pub mod Regions
+pub mod Lengths
+pub mod Bounds
+pub mod Layouts

@@ -1,5 +1,5 @@
 -- The places of a program's board are valid in its shape, and their addresses are below the number of its words.
-use Rattle.std.proofs.Common.{◌≡◌, inl, inr, ℕ, zero, suc, ◌+◌, ◌-◌, ◌*◌, ◌<◌, ◌≤◌, true, List, [], ◌∷◌, ◌++◌, length, map, get_or, refl, ap, ◌∙◌, arith}
+use Rattle.std.proofs.Common.{◌≡◌, inl, inr, ℕ, zero, suc, ◌+◌, ◌-◌, ◌*◌, ◌<◌, ◌≤◌, true, List, [], ◌∷◌, ◌++◌, length, map, get_or, refl, ap, ◌∙◌, arith, length-append}
 use Rattle.std.proofs.lemmas.Bool.{cases_lt, lt-ltb, and_from}
 use Rattle.std.proofs.lemmas.List.{length-map, get_or_past, get_or_append_left}
 use Rattle.task_isa.specs.declared.program.ThreadDef.{ThreadDef}
@@ -70,7 +70,7 @@ module _ (program : Program) where
   abbrev queues : List ℕ
   queues = queue_regions (map queue_words program.threads)
 
-  abbrev rest : List ℕ
+  abbrev pub rest : List ℕ
   rest = length program.sources ∷ 1 ∷ length program.sources ∷ []
 
   -- how many regions each kind has
@@ -114,7 +114,8 @@ module _ (program : Program) where
       past_blocks (length program.pipes + n) k (omega arith)
       ∙ (at_right rings (queues ++ rest) n (length program.pipes + n) (omega (arith, lengths.rings)) ∙ at_left queues rest n (omega (arith, lengths.queues)))
 
-  in_rest : (n k : ℕ) → k ≡ length tasks + 3 * length program.threads + length program.pipes + 2 * length program.threads + n →
+  -- the last three regions: the ACKs, the clock, the SRCs
+  pub in_rest : (n k : ℕ) → k ≡ length tasks + 3 * length program.threads + length program.pipes + 2 * length program.threads + n →
       get_or (regions (shape_of program)) k 0 ≡ get_or rest n 0
   in_rest n k e =
       past_blocks (length program.pipes + (2 * length program.threads + n)) k (omega arith)
@@ -162,6 +163,39 @@ module _ (program : Program) where
 
   pub valid : (p : Place) → IsOnBoard program p → is_valid (shape_of program) p ≡ true
   valid p h = and_from _ _ (indices_of p h) (lt-ltb _ _ (room_of p h))
+
+  pub regions_count : length (regions (shape_of program)) ≡ length program.tasks + 3 * length program.threads + length program.pipes + 2 * length program.threads + 3
+  regions_count =
+      let one = length-append tasks (blocks ++ (rings ++ (queues ++ rest))) in
+      let two = length-append blocks (rings ++ (queues ++ rest)) in
+      let three = length-append rings (queues ++ rest) in
+      let four = length-append queues rest in
+      omega (arith, one, two, three, four, lengths.tasks, lengths.blocks, lengths.rings, lengths.queues)
+
+  -- the number of the region of a place
+  abbrev pub region_number : Place → ℕ
+  region_number (Code x n) = x
+  region_number (Commit t) = length program.tasks + 3 * t
+  region_number (Page t p b k) = length program.tasks + 3 * t + 1
+  region_number (Log t n) = length program.tasks + 3 * t + 2
+  region_number (Ring q n) = length program.tasks + 3 * length program.threads + q
+  region_number (Tail t) = length program.tasks + 3 * length program.threads + length program.pipes + 2 * t
+  region_number (Slot t n) = length program.tasks + 3 * length program.threads + length program.pipes + 2 * t + 1
+  region_number (Ack i) = length program.tasks + 3 * length program.threads + length program.pipes + 2 * length program.threads
+  region_number Clock = length program.tasks + 3 * length program.threads + length program.pipes + 2 * length program.threads + 1
+  region_number (Src i) = length program.tasks + 3 * length program.threads + length program.pipes + 2 * length program.threads + 2
+
+  pub region_is : (p : Place) → region (shape_of program) p ≡ region_number p
+  region_is (Code x n) = refl
+  region_is (Commit t) = omega (arith, lengths.tasks)
+  region_is (Page t p b k) = omega (arith, lengths.tasks)
+  region_is (Log t n) = omega (arith, lengths.tasks)
+  region_is (Ring q n) = omega (arith, lengths.tasks, lengths.shapes)
+  region_is (Tail t) = omega (arith, lengths.tasks, lengths.shapes, lengths.rings)
+  region_is (Slot t n) = omega (arith, lengths.tasks, lengths.shapes, lengths.rings)
+  region_is (Ack i) = omega (arith, lengths.tasks, lengths.shapes, lengths.rings, lengths.words)
+  region_is Clock = omega (arith, lengths.tasks, lengths.shapes, lengths.rings, lengths.words)
+  region_is (Src i) = omega (arith, lengths.tasks, lengths.shapes, lengths.rings, lengths.words)
 
   -- there is a region of the place
   pub region_there : (p : Place) → IsOnBoard program p → region (shape_of program) p < length (regions (shape_of program))

@@ -1,5 +1,5 @@
 -- Which words the board of a program has.
-use Rattle.std.specs.Prelude.{ℕ, ◌+◌, ◌/◌, ◌<◌, length, map}
+use Rattle.std.specs.Prelude.{ℕ, ◌+◌, ◌/◌, ◌<◌, ◌≤◌, List, All, length, map}
 use Rattle.task_isa.specs.declared.program.ThreadDef.{ThreadDef}
 use Rattle.task_isa.specs.declared.program.PipeDef.{PipeDef}
 use Rattle.task_isa.specs.declared.program.Task.{Task}
@@ -37,6 +37,10 @@ shape_of program =
       queues = map queue_words program.threads;
       sources = length program.sources;
     }
+
+-- no task has more than 4,096 instructions
+abbrev pub AreShort : List Task → Type 0
+AreShort tasks = All (λ task. length task.code ≤ 4096) tasks
 
 -- how many words there are
 abbrev pub words_of : Shape → ℕ

@@ -2,10 +2,13 @@
 #![tactic(auto)]
 
 mod kernel_point;
+mod making;
 mod pick;
 mod slot_at;
+mod starts;
 
 pub use fram_words::{Layout, QueuePlace, ThreadPlace};
 pub use kernel_point::KernelPoint;
+pub use making::make_layout;
 pub use pick::Pick;
 pub use slot_at::SlotAt;

@@ -1,0 +1,70 @@
+-- An accepted program has fewer than 100,000 words.
+use Rattle.std.proofs.Common.{◌≡◌, ℕ, suc, ◌+◌, ◌*◌, ◌<◌, ◌≤◌, List, [], ◌∷◌, ◌++◌, length, map, get_or, refl, arith}
+use Rattle.std.specs.Prelude.{sum_by}
+use Rattle.std.proofs.lemmas.List.Sums.{sum_by-cons}
+use Rattle.task_isa.specs.declared.program.ThreadDef.{ThreadDef}
+use Rattle.task_isa.specs.declared.program.PipeDef.{PipeDef}
+use Rattle.task_isa.specs.declared.program.Task.{Task}
+use Rattle.task_isa.specs.declared.program.Program.{Program}
+use Rattle.prog_check.specs.Lookup.{no_thread_def, no_pipe_def}
+use Rattle.prog_check.specs.Accepted.{IsAccepted, IsRightThread, IsRightPipe}
+use Rattle.fram_words.specs.Shape.{thread_regions, queue_regions, words_before}
+use Rattle.ink_layout.specs.Shape.{thread_shape, task_words, pipe_words, queue_words, shape_of, words_of}
+
+-- all words of some regions
+abbrev all_words : List ℕ → ℕ
+all_words xs = words_before xs (length xs)
+
+all_append : (xs ys : List ℕ) → all_words (xs ++ ys) ≡ all_words xs + all_words ys
+all_append [] ys = omega arith
+all_append (x ∷ xs) ys = let h = all_append xs ys in omega (arith, h)
+
+code_words : (tasks : List Task) → all_words (map task_words tasks) ≡ sum_by task_words tasks
+code_words [] = refl
+code_words (x ∷ xs) = let h = code_words xs in let s = sum_by-cons task_words x xs in omega (arith, h, s)
+
+block_bound : (xs : List ThreadDef) → ((t : ℕ) → t < length xs → IsRightThread (get_or xs t no_thread_def)) →
+    all_words (thread_regions (map thread_shape xs)) ≤ 4705 * length xs
+block_bound [] right = omega arith
+block_bound (x ∷ xs) right =
+    let h : all_words (thread_regions (map thread_shape xs)) ≤ 4705 * length xs = block_bound xs (λ t lt. right (suc t) (omega arith)) in
+    let r : IsRightThread x = right 0 (omega arith) in
+    let state : x.state ≤ 256 = r.state in
+    let log : x.log ≤ 4096 = r.log in
+    omega arith
+
+queue_bound : (xs : List ThreadDef) → ((t : ℕ) → t < length xs → IsRightThread (get_or xs t no_thread_def)) →
+    all_words (queue_regions (map queue_words xs)) ≤ 33 * length xs
+queue_bound [] right = omega arith
+queue_bound (x ∷ xs) right =
+    let h : all_words (queue_regions (map queue_words xs)) ≤ 33 * length xs = queue_bound xs (λ t lt. right (suc t) (omega arith)) in
+    let r : IsRightThread x = right 0 (omega arith) in
+    let queue : x.queue ≤ 32 = r.queue in
+    omega arith
+
+ring_bound : (program : Program) (xs : List PipeDef) → ((q : ℕ) → q < length xs → IsRightPipe program (get_or xs q no_pipe_def)) →
+    all_words (map pipe_words xs) ≤ 64 * length xs
+ring_bound program [] right = omega arith
+ring_bound program (x ∷ xs) right =
+    let h : all_words (map pipe_words xs) ≤ 64 * length xs = ring_bound program xs (λ q lt. right (suc q) (omega arith)) in
+    let r : IsRightPipe program x = right 0 (omega arith) in
+    let places : x.places ≤ 64 = r.places in
+    omega arith
+
+pub few_words : (program : Program) → IsAccepted program → words_of (shape_of program) < 100000
+few_words program a =
+    let tasks : List ℕ = map task_words program.tasks in
+    let blocks : List ℕ = thread_regions (map thread_shape program.threads) in
+    let rings : List ℕ = map pipe_words program.pipes in
+    let queues : List ℕ = queue_regions (map queue_words program.threads) in
+    let rest : List ℕ = length program.sources ∷ 1 ∷ length program.sources ∷ [] in
+    let one : all_words (tasks ++ (blocks ++ (rings ++ (queues ++ rest)))) ≡ all_words tasks + all_words (blocks ++ (rings ++ (queues ++ rest))) = all_append tasks _ in
+    let two : all_words (blocks ++ (rings ++ (queues ++ rest))) ≡ all_words blocks + all_words (rings ++ (queues ++ rest)) = all_append blocks _ in
+    let three : all_words (rings ++ (queues ++ rest)) ≡ all_words rings + all_words (queues ++ rest) = all_append rings _ in
+    let four : all_words (queues ++ rest) ≡ all_words queues + all_words rest = all_append queues _ in
+    let code : all_words tasks ≡ sum_by task_words program.tasks = code_words program.tasks in
+    let small : sum_by task_words program.tasks ≤ 4096 = a.counts.code in
+    let b : all_words blocks ≤ 4705 * length program.threads = block_bound program.threads a.threads in
+    let q : all_words queues ≤ 33 * length program.threads = queue_bound program.threads a.threads in
+    let r : all_words rings ≤ 64 * length program.pipes = ring_bound program program.pipes a.pipes in
+    omega (arith, a.counts.threads, a.counts.pipes, a.counts.sources)

@@ -1,0 +1,7 @@
+-- The lengths of those before.
+use Rattle.std.proofs.Common.{◌≡◌, ◌++◌, map, take}
+use Rattle.ink_layout.specs.Shape.{task_words}
+use Rattle.ink_layout.proofs.starts.add_tasks.Given as goal
+
+abbrev pub invariant-loop-task : goal.invariant-loop-task
+invariant-loop-task l = l.lengths.items ≡ l.initial.lengths.items ++ map task_words (take l.task-index l.tasks)
