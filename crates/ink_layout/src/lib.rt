@@ -4,6 +4,7 @@
 mod kernel_point;
 mod making;
 mod pick;
+mod plan;
 mod slot_at;
 mod starts;
 
@@ -11,4 +12,5 @@ pub use fram_words::{Layout, QueuePlace, ThreadPlace};
 pub use kernel_point::KernelPoint;
 pub use making::make_layout;
 pub use pick::Pick;
+pub use plan::Plan;
 pub use slot_at::SlotAt;
