@@ -14,3 +14,5 @@ mod task;
 
 pub use section::read_program;
 
+#[cfg(test)]
+mod tests;
