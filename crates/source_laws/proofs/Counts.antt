@@ -1,6 +1,7 @@
 -- How many events the sources of a queue had accepted.
 use Rattle.std.proofs.Common.{◌≡◌, ◌≢◌, inl, inr, ℕ, zero, suc, ◌+◌, ◌*◌, ◌<◌, ◌≤◌, ◌==◌, cond, Bool, true, false, length, refl, sym, ap, ◌∙◌, subst, arith, ◌^◌}
 use Rattle.std.proofs.lemmas.Bool.{cases_eq, eq-eqb, eqb-true}
+use Rattle.push_core.specs.Table.{greatest_tail}
 use Rattle.source_laws.specs.Slots.{FitsSlot}
 use Rattle.source_laws.specs.Model.{places_of, Board, Queue, Source, published}
 use Rattle.source_laws.specs.Stands.{event_at}
@@ -54,12 +55,17 @@ accepted_bound board f t (suc n) h = omega (arith, accepted_bound board f t n h,
     here true = h n
     here false = omega arith
 
+-- a queue's published events are at most those of 16 sources with 65,535 readings each
+pub published_bound : (board : Board) (queue : ℕ → Queue) (source : ℕ → Source) (t : ℕ) → IsWithin board → ((i : ℕ) → IsOrdered (length (board.readings i)) (source i)) → EventsKept board queue source t
+    → published (queue t) ≤ greatest_tail
+published_bound board queue source t w ordered h =
+    let b = accepted_bound board source t board.shape.sources (λ j. omega (arith, (ordered j).accepted, (ordered j).next, w.readings j)) in
+    omega (arith, b, h.number, w.sources)
+
 -- positions fit their bits
 pub positions_fit : (board : Board) (queue : ℕ → Queue) (source : ℕ → Source) (t : ℕ) → IsWithin board → ((i : ℕ) → IsOrdered (length (board.readings i)) (source i)) → EventsKept board queue source t
     → published (queue t) + places_of board t < 2 ^ 21
-positions_fit board queue source t w ordered h =
-    let b = accepted_bound board source t board.shape.sources (λ j. omega (arith, (ordered j).accepted, (ordered j).next, w.readings j)) in
-    omega (arith, b, h.number, w.sources, w.no_more t)
+positions_fit board queue source t w ordered h = omega (arith, published_bound board queue source t w ordered h, w.no_more t)
 
 -- the numbers of an event fit their bits
 pub event_fits : (board : Board) (queue : ℕ → Queue) (source : ℕ → Source) (t : ℕ) → IsWithin board → ((i : ℕ) → IsOrdered (length (board.readings i)) (source i)) → EventsKept board queue source t

@@ -41,7 +41,7 @@ module _ {i places : ℕ} {n : Near} {tail ack : ℕ} {q : Queue} (d : Drifts i 
   knows_drift readings a k (LoadSlot p) h = (h.0, h.1, omega (arith, h.2, d.tail_up))
   knows_drift readings a k (Publish p) h = (h.0, h.1, omega (arith, h.2, d.tail_up), omega (arith, h.3, d.released_up))
   knows_drift readings a k (MoveTail p) h = (h.0, omega (arith, h.1, d.published_up))
-  knows_drift readings a k (HelpTail p) h = (h.0, omega (arith, h.1, d.published_up))
+  knows_drift readings a k (HelpTail p) h = (h.0, h.1, omega (arith, h.2, d.published_up))
   knows_drift readings a k StoreSkip h = h
   knows_drift readings a k StoreAccepted h = h
 

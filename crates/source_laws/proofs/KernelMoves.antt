@@ -146,7 +146,7 @@ kept_apart board x y word model rows h = record {
   events = λ t. events_part board x y t (queue t) (λ j _. ap (λ (z : Source). z.accepted) (source j)) (h.events t);
   sources = λ j. elim (rows j) [
     | inl same ↦ source_as (h.sources j) (near_same j) same
-    | inr first ↦ source_as (record { stands = (h.sources j).stands; ordered = (h.sources j).ordered; knows = tt }) (near_same j) first
+    | inr first ↦ source_as (record { stands = (h.sources j).stands; ordered = (h.sources j).ordered; knows = (refl, refl) }) (near_same j) first
   ];
 }
   where

@@ -11,6 +11,7 @@ pub mod Frames
 pub mod Nears
 pub mod SourceMoves
 pub mod KernelMoves
+pub mod Fits
 pub mod Steps
 pub mod Journals
 pub mod Runs

@@ -215,7 +215,7 @@ module _ {i places readings : ℕ} {slot : ℕ → ℕ} {v : Near} (h : Own i pl
       by_look : Look places slot v.tail v.queue p → KnowsNow a k (after_slot places p (slot_in (slot (p % places))))
       by_look (Free is read at room tail-is) = subst (KnowsNow a k) (sym (ap (after_slot places p) read ∙ ap (λ (t : Bool). cond t (Publish p) (HelpTail p)) (eq-eqb p p refl))) (r.0, r.1, r.2, omega arith)
       by_look (Turn read at all) = absurd (true≢false (sym (ap (is_full_at places p) read ∙ eq-eqb _ _ at) ∙ goes))
-      by_look (Passed before not_free not_full not_empty) = subst (KnowsNow a k) (sym (passed_row places p (slot_in (slot (p % places))) not_full not_empty)) (r.0, before)
+      by_look (Passed before not_free not_full not_empty) = subst (KnowsNow a k) (sym (passed_row places p (slot_in (slot (p % places))) not_full not_empty)) (r.0, r.1, before)
 
   -- with one: the queue is full
   pub own_refuse : (a k p : ℕ) → KnowsNow a k (LoadSlot p) → is_full_at places p (slot_in (slot (p % places))) ≡ true → (after_slot places p (slot_in (slot (p % places))) ≡ StoreSkip) × (length v.queue.held ≡ places)

@@ -38,7 +38,7 @@ kept_first board x h = record {
       (record {
         stands = record { gone = 0; numbered = refl; ack_is = inl (omega arith); stored = (0, 0, omega arith, inl (refl, refl)) };
         ordered = record { accepted = omega arith; next = omega arith };
-        knows = tt;
+        knows = (refl, refl);
       })
       (near_is board x i (h.tails (board.queue_of i)) (h.srcs i) (h.acks i) (h.queues (board.queue_of i)) (h.sources i)) (h.rows i);
 }

@@ -90,7 +90,7 @@ module _ (board : Board) (x y : State) (i : ℕ) (w : IsWithin board) (lt : i < 
             kept_push board x y i (row_at a k (MoveTail p)) lt w won.1 (won.2 ∙ sym won.0) left ready now model rows
                 (record { word = knows.0.word; accepted = ap suc knows.0.accepted; next = ap suc knows.0.next }, omega (arith, won.0, length-append (x.model.queue (board.queue_of i)).held (event_of board i (x.model.source i).accepted (x.model.source i).next ∷ []))) h,
           )
-      by_test false e word rows model = (tt, still (row_at a k (HelpTail p)) word model rows (knows.0, own_lost (own_of board x i w lt h) p knows.2 knows.3 (eqb-false _ _ e)))
+      by_test false e word rows model = (tt, still (row_at a k (HelpTail p)) word model rows (knows.0, knows.1, own_lost (own_of board x i w lt h) p knows.2 knows.3 (eqb-false _ _ e)))
 
   step_at : (a k : ℕ) (stage : Stage) → At (row_at a k stage) → IsLeft (length (board.readings i)) (row_at a k stage) → Makes (access board i (row_at a k stage)) x.word y.word
       → Becomes i (take board i (row_at a k stage) (found board x.word i (row_at a k stage))) x.row y.row → Adds board (entry board i (row_at a k stage) (found board x.word i (row_at a k stage))) x.model y.model
@@ -102,7 +102,7 @@ module _ (board : Board) (x y : State) (i : ℕ) (w : IsWithin board) (lt : i < 
   step_at a k (LoadSlot p) knows left word rows model = looked a k p knows word rows model
   step_at a k (Publish p) knows left word rows model = published_by a k p knows word rows model
   step_at a k (MoveTail p) knows left word rows model = (tt, moved p (row_at a k StoreAccepted) word model rows knows.1 (λ tail. knows.0))
-  step_at a k (HelpTail p) knows left word rows model = (tt, moved p (row_at a k LoadTail) word model rows knows.1 (λ tail. knows.0))
+  step_at a k (HelpTail p) knows left word rows model = (tt, moved p (row_at a k LoadTail) word model rows knows.2 (λ tail. knows.0))
   step_at a k StoreSkip knows left word rows model = (
     knows.1,
     kept_own board x y i (src_word a (k + 1)) (with_skipped (x.model.source i)) (row_at a (k + 1) LoadTail) word model rows refl

@@ -36,14 +36,14 @@ pub record IsLate (src : ℕ) (s : Source) (a k : ℕ) : Type 0 where
 
 -- what source i knows in each row, with the accepted number a and the next reading k
 abbrev pub KnowsAt : (i places readings : ℕ) → Near → (a k : ℕ) → Stage → Type 0
-KnowsAt i places readings n a k LoadSrc = Unit {0}
+KnowsAt i places readings n a k LoadSrc = (a ≡ 0) × (k ≡ 0)
 KnowsAt i places readings n a k (LoadSlots slot seen) = Boots i places n a k slot seen × (slot < places)
 KnowsAt i places readings n a k (LoadAck seen) = Boots i places n a k places seen
 KnowsAt i places readings n a k LoadTail = IsReady n.src n.source a k
 KnowsAt i places readings n a k (LoadSlot p) = IsReady n.src n.source a k × (k < readings) × (p ≤ n.tail)
 KnowsAt i places readings n a k (Publish p) = IsReady n.src n.source a k × (k < readings) × (p ≤ n.tail) × (p < n.queue.released + places)
 KnowsAt i places readings n a k (MoveTail p) = IsLate n.src n.source a k × (p < published n.queue)
-KnowsAt i places readings n a k (HelpTail p) = IsReady n.src n.source a k × (p < published n.queue)
+KnowsAt i places readings n a k (HelpTail p) = IsReady n.src n.source a k × (k < readings) × (p < published n.queue)
 KnowsAt i places readings n a k StoreSkip = IsReady n.src n.source a k × (n.source.refused ≡ true) × (k < readings)
 KnowsAt i places readings n a k StoreAccepted = IsLate n.src n.source a k
 
