@@ -5,3 +5,5 @@ pub mod Queues
 pub mod Releases
 pub mod Scans
 pub mod Follows
+pub mod Journals
+pub mod PlainRuns

@@ -8,7 +8,7 @@ use Rattle.prog_check.specs.Lookup.{thread_def, pipe_def, timer_def, task_def, s
 use Rattle.never_cut.specs.declared.model.Model.{Model}
 use Rattle.never_cut.specs.State.{thread_of, pipe_of, timer_of, source_of}
 use Rattle.never_cut.specs.Commit.{outputs_of}
-use Rattle.never_cut.specs.Entries.{Readings, readings_of}
+use Rattle.never_cut.specs.Entries.{Readings, readings_of, IsCalm}
 use Rattle.never_cut.specs.Stands.{published, event_at}
 
 -- as many of each part as the program declares
@@ -59,7 +59,6 @@ pub record IsSoundThread (program : Program) (m : Model) (t : ℕ) : Type 0 wher
   pub outputs : length (outputs_of m t) ≤ (thread_def program t).log
   pub first : (thread_of m t).first ≤ m.clock
   pub totals : (thread_of m t).served + (thread_of m t).trapped + (thread_of m t).expired ≤ m.commits
-  pub state : (n : ℕ) → slice_index (thread_of m t).state n < 2 ^ 32
 
 pub record IsSoundPipe (program : Program) (m : Model) (q : ℕ) : Type 0 where
   pub room : length (pipe_of m q).items ≤ (pipe_def program q).places
@@ -84,3 +83,5 @@ pub record IsSound (program : Program) (readings : Readings) (m : Model) : Type 
   pub timers : (j : ℕ) → j < length program.timers → IsSoundTimer m j
   pub sources : (i : ℕ) → i < length program.sources → IsSoundSource readings m i
   pub scan : ForSome m.scan (λ scan. scan.time ≤ m.clock)
+  -- a scan begins with nothing finished, and a commit ends it
+  pub calm : ForSome m.scan (λ scan. IsCalm program m)
