@@ -7,3 +7,5 @@ pub mod Scans
 pub mod Follows
 pub mod Journals
 pub mod PlainRuns
+pub mod Accepted
+pub mod Outputs

@@ -72,7 +72,7 @@ run_keeps code given room zero c size plain s o = tt
 run_keeps code given room (suc left) c size plain s o =
     let i : Instr = instr_at code c.cpu.at in
     by_step (execute (act_of i given c.cpu) given room c) (step_keeps (act_of i given c.cpu) given room c size (plain_act i given c.cpu (plain c.cpu.at)) s o)
-        (λ next a b. run_keeps code given room left next size plain a b)
+    (λ next a b. run_keeps code given room left next size plain a b)
   where
     by_step : (step : Stepped) → StepKeeps size room.log step →
         ((next : Config) → length next.effects.state ≡ size → length next.effects.outs ≤ room.log → RunKeeps size room.log (run code given room left next)) →
