@@ -1,0 +1,5 @@
+pub mod Blocks
+pub mod Boots
+pub mod Drifts
+pub mod Ends
+pub mod Ranges

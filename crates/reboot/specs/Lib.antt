@@ -1,1 +1,3 @@
 pub mod Boot
+pub mod Knows
+pub mod Laws

@@ -3,8 +3,10 @@
 
 mod address;
 mod boot_at;
+mod laws;
 mod machine;
 
 pub use address::{header_at, slot_at};
 pub use boot_at::BootAt;
+pub use laws::boot_releases;
 pub use machine::BootMachine;

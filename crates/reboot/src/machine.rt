@@ -9,7 +9,7 @@ use crate::address::{header_at, slot_at};
 use crate::boot_at::BootAt;
 use fram_words::{Access, Layout};
 use ink_base::ThreadId;
-use ink_layout::{KernelPoint, SlotAt};
+use ink_layout::{KernelPoint, Plan, SlotAt};
 use push_core::{Slot, empty, read_slot};
 use task_isa::Program;
 
@@ -43,7 +43,40 @@ impl BootMachine {
         }
     }
 
-    /// The next access. Once the boot is over there is none to make.
+    /// The next access, at the address that the plan's layout gives its place. Once the boot is over there is none to make, and the
+    /// answer means nothing.
+    pub fn want(&self, plan: &Plan) -> Access
+        requires { IsBoot plan.now.accepted self.now }
+        ensures { result ≡ at_layout plan.now.layout (boot_wants plan.now.accepted self.now.thread.0 self.now.at) }
+    {
+        self.access(plan.program(), &plan.layout)
+    }
+
+    /// Takes the word that the wanted access found, goes on to the row that follows, and answers what the access stands for. A boot that
+    /// is over stays as it is.
+    pub fn take(&mut self, plan: &Plan, word: u64) -> KernelPoint
+        requires row { IsBoot plan.now.accepted self.old }
+        requires range { IsBootWord plan.now.accepted self.old.at word }
+        ensures taken { self.new ≡ boot_takes plan.now.accepted self.old.thread self.old.stamp self.old.at word }
+        ensures row { IsBoot plan.now.accepted self.new }
+        ensures point { result ≡ boot_point self.old.thread self.old.at }
+    {
+        let point = self.point();
+        *self = self.following(plan.program(), word);
+        point
+    }
+
+    /// The queue and the position of the event that the wanted access looks for, acknowledges or releases; none exactly where it is
+    /// another access.
+    pub fn slot_wanted(&self, plan: &Plan) -> Option<SlotAt>
+        requires { IsBoot plan.now.accepted self.now }
+        ensures { result ≡ boot_slot self.now.thread self.now.at }
+    {
+        let _plan = plan;
+        self.slot()
+    }
+
+    /// The access of the row.
     fn access(self, program: &Program, layout: &Layout) -> Access
         requires accepted { IsAccepted program.now }
         requires layout { FitsLayout program.now layout.now }

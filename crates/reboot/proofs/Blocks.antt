@@ -1,0 +1,21 @@
+-- What the header words of a committed copy say.
+use Rattle.std.proofs.Common.{◌≡◌, ℕ, ◌<◌, length}
+use Rattle.task_isa.specs.declared.program.Program.{Program}
+use Rattle.fram_words.specs.Places.{Memory}
+use Rattle.thread_state.specs.Pages.{committed}
+use Rattle.never_cut.specs.declared.model.Model.{Model}
+use Rattle.never_cut.specs.State.{thread_of}
+use Rattle.never_cut.specs.Stands.{thread_words, next_word, StandsPrivate}
+use Rattle.reboot.specs.Knows.{finished_events}
+
+-- the task that a chain goes on with
+pub running_word : (program : Program) (words : Memory) (m : Model) (t : ℕ) → t < length program.threads → StandsPrivate words program m →
+    committed words t 1 ≡ next_word (thread_of m t).running
+unfolding thread_words
+running_word program words m t known h = let x = h.threads t known in x.block 1
+
+-- the number of finished events
+pub finished_word : (program : Program) (words : Memory) (m : Model) (t : ℕ) → t < length program.threads → StandsPrivate words program m →
+    committed words t 5 ≡ finished_events m t
+unfolding thread_words
+finished_word program words m t known h = let x = h.threads t known in x.block 5

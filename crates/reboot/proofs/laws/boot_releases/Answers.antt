@@ -1,0 +1,18 @@
+-- The law, by the lemmas on each row.
+use Rattle.reboot.proofs.Boots.{boot_begins, boot_keeps}
+use Rattle.reboot.proofs.Drifts.{boot_drifts}
+use Rattle.reboot.proofs.Ends.{boot_ends}
+use Rattle.reboot.proofs.Ranges.{boot_in_range}
+use Rattle.reboot.proofs.laws.boot_releases.Goals as goal
+
+pub returns-clause-begins : goal.returns-clause-begins
+returns-clause-begins c = boot_begins
+
+pub returns-clause-keeps : goal.returns-clause-keeps
+returns-clause-keeps c = λ program readings words m boot b h. (boot_in_range program readings words m boot b h, boot_keeps program readings words m boot b h)
+
+pub returns-clause-drifts : goal.returns-clause-drifts
+returns-clause-drifts c = boot_drifts
+
+pub returns-clause-ends : goal.returns-clause-ends
+returns-clause-ends c = boot_ends

@@ -1,0 +1,38 @@
+-- What a boot keeps, and what it has done at its end.
+use Rattle.std.specs.Prelude.{◌≡◌, ℕ, Some}
+use Rattle.task_isa.specs.declared.program.Program.{Program}
+use Rattle.fram_words.specs.Places.{Memory, answer}
+use Rattle.never_cut.specs.declared.model.Model.{Model}
+use Rattle.never_cut.specs.Entries.{Readings, IsCalm}
+use Rattle.never_cut.specs.Actors.{SamePrivate, Follows}
+use Rattle.never_cut.specs.Steps.{Background}
+use Rattle.reboot.specs.declared.machine.BootMachine.{BootMachine}
+use Rattle.reboot.specs.Boot.{boot_begun, boot_stamp, boot_wants, IsBoot, IsBootWord}
+use Rattle.reboot.specs.Knows.{BootHolds, BootStep}
+
+-- whatever the registers held before: those in which a boot begins know all that they must
+abbrev pub BootBegins : Type 0
+BootBegins = (program : Program) (readings : Readings) (words : Memory) (m : Model) → Background program readings words m → BootHolds program words m boot_begun
+
+-- the registers, and the word that the wanted access finds, lie in their ranges
+pub record IsInRange (program : Program) (words : Memory) (boot : BootMachine) : Type 0 where
+  pub row : IsBoot program boot
+  pub word : IsBootWord program boot.at (answer words (boot_wants program boot.thread.0 boot.at))
+
+-- each access may be made, and is kept
+abbrev pub BootKeeps : Type 0
+BootKeeps =
+    (program : Program) (readings : Readings) (words : Memory) (m : Model) (boot : BootMachine) →
+    Background program readings words m → BootHolds program words m boot → IsInRange program words boot × BootStep program readings words m boot
+
+-- what is known outlasts the accesses of sources and clock
+abbrev pub BootDrifts : Type 0
+BootDrifts =
+    (program : Program) (words new : Memory) (m next : Model) (boot : BootMachine) →
+    SamePrivate words new → Follows m next → BootHolds program words m boot → BootHolds program new next boot
+
+-- at the end no finished event is left, and the stamp is the number of commits
+abbrev pub BootEnds : Type 0
+BootEnds =
+    (program : Program) (readings : Readings) (words : Memory) (m : Model) (boot : BootMachine) (stamp : ℕ) →
+    Background program readings words m → BootHolds program words m boot → boot_stamp boot ≡ Some stamp → IsCalm program m × (stamp ≡ m.commits)
