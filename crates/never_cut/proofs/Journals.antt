@@ -4,7 +4,7 @@ use Rattle.ink_base.specs.declared.entry.Entry.{Entry}
 use Rattle.task_isa.specs.declared.program.Program.{Program}
 use Rattle.never_cut.specs.declared.model.Model.{Model}
 use Rattle.never_cut.specs.Entries.{Readings, Legal, effect}
-use Rattle.never_cut.specs.Journal.{after_from, after, IsLegalFrom, IsLegal, noted, moved, MayNote}
+use Rattle.never_cut.specs.Journal.{after_from, IsLegalFrom, noted, moved, MayNote}
 
 pub after_from-append : (program : Program) (readings : Readings) (m : Model) (journal : List Entry) (e : Entry) →
     after_from program readings m (journal ++ e ∷ []) ≡ effect program readings (after_from program readings m journal) e

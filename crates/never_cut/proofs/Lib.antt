@@ -9,3 +9,5 @@ pub mod Journals
 pub mod PlainRuns
 pub mod Accepted
 pub mod Outputs
+pub mod SoundParts
+pub mod SoundSteps

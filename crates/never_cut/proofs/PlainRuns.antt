@@ -1,16 +1,15 @@
 -- A plain task ends its service or traps; it keeps the length of its state, and puts out no more than the log has room for.
-use Rattle.std.proofs.Common.{◌≡◌, ℕ, zero, suc, ◌+◌, ◌<◌, ◌≤◌, ◌==◌, ◌/◌, ◌%◌, Bool, true, false, cond, List, [], ◌∷◌, ◌++◌, length, refl, sym, ap, ◌∙◌, arith, length-append, length-set}
-use Rattle.std.specs.Prelude.{nat_lt, if◌then◌else◌}
+use Rattle.std.proofs.Common.{◌≡◌, ℕ, zero, suc, ◌<◌, ◌≤◌, ◌==◌, ◌/◌, ◌%◌, Bool, true, false, cond, List, [], ◌∷◌, length, refl, ◌∙◌, arith, length-append, length-set}
+use Rattle.std.specs.Prelude.{nat_lt}
 use Rattle.std.proofs.lemmas.Bool.{ltb-true}
 use Rattle.task_isa.specs.declared.act.Act.{Act}
 use Rattle.task_isa.specs.declared.act.Act.TheVariants.{Sets, Goes, Loads, Saves, Puts, Sends, Arms, Stops, Continues, Ends, Traps}
 use Rattle.task_isa.specs.declared.instr.Instr.{Instr}
 use Rattle.task_isa.specs.declared.instr.Instr.TheVariants.{Divu, Remu, Next}
 use Rattle.task_isa.specs.declared.outcome.Outcome.TheVariants as outcomes
-use Rattle.task_isa.specs.declared.outcome.TrapCode.{TrapCode}
 use Rattle.task_isa.specs.declared.outcome.TrapCode.TheVariants.{Divisor}
 use Rattle.task_isa.specs.Acts.{Given, Cpu, reg, act_of, divided}
-use Rattle.task_isa.specs.Meaning.{Config, Room, Stepped, GoesOn, IsOver, HasTrapped, RunEnd, Ended, Trapped, execute, instr_at, run, has_room, first_config}
+use Rattle.task_isa.specs.Meaning.{Config, Room, Stepped, GoesOn, IsOver, HasTrapped, RunEnd, Ended, Trapped, execute, instr_at, run, has_room}
 use Rattle.never_cut.specs.Plain.{IsPlainInstr}
 
 -- no other task follows
