@@ -96,17 +96,14 @@ impl Row {
     {
         match self.stage {
             Stage::LoadSrc => Row::loaded(word),
-            Stage::LoadSlots { slot, seen } => self.with(after_boot_slot(
-                port.queue.places,
-                slot,
-                seen || shows_own(port.source, self.accepted, word),
-            )),
-            Stage::LoadAck { seen } => self.with(after_ack(
-                self.accepted,
-                (self.next as usize) < number,
-                seen,
-                word,
-            )),
+            Stage::LoadSlots { slot, seen } => {
+                let seen = seen || shows_own(port.source, self.accepted, word);
+                self.with(after_boot_slot(port.queue.places, slot, seen))
+            }
+            Stage::LoadAck { seen } => {
+                let is_left = (self.next as usize) < number;
+                self.with(after_ack(self.accepted, is_left, seen, word))
+            }
             Stage::LoadTail => self.with(Stage::LoadSlot { tail: word as u32 }),
             Stage::LoadSlot { tail } => self.with(after_slot(port.queue.places, tail, word)),
             Stage::Publish { tail } => self.with(after_publish(tail, word)),
