@@ -11,3 +11,4 @@ pub mod Accepted
 pub mod Outputs
 pub mod SoundParts
 pub mod SoundSteps
+pub mod Picks
