@@ -2,3 +2,5 @@ pub mod Regions
 pub mod Lengths
 pub mod Bounds
 pub mod Layouts
+pub mod Stages
+pub mod Images

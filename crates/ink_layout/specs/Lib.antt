@@ -2,3 +2,5 @@ pub mod Points
 pub mod Shape
 pub mod Addresses
 pub mod Layouts
+pub mod Image
+pub mod Stages

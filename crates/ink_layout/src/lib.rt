@@ -1,6 +1,7 @@
 //! What the machines of the kernel speak of: where a program's words stand, its first image, and what a step and a scan tell.
 #![tactic(auto)]
 
+mod image;
 mod kernel_point;
 mod making;
 mod pick;
@@ -9,6 +10,7 @@ mod slot_at;
 mod starts;
 
 pub use fram_words::{Layout, QueuePlace, ThreadPlace};
+pub use image::first_image;
 pub use kernel_point::KernelPoint;
 pub use making::make_layout;
 pub use pick::Pick;

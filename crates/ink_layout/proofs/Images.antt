@@ -1,0 +1,140 @@
+-- The words of the board while the first image is made.
+use Rattle.std.proofs.Common.{◌≡◌, ◌≢◌, ℕ, ◌+◌, ◌-◌, ◌*◌, ◌/◌, ◌%◌, ◌<◌, ◌≤◌, ◌&&◌, true, false, cond, List, length, get_or, refl, ap, ◌∙◌, sym, subst, arith, inl, inr, length-set}
+use Rattle.std.specs.Prelude.{◌==◌, nat_lt, nat_le, replicate}
+use Rattle.std.proofs.lemmas.Bool.{cases_lt, cases_eq}
+use Rattle.std.proofs.lemmas.Bool.Decides.{nat_tests}
+use Rattle.std.proofs.lemmas.List.{get_or-replicate, get_or_past, length-replicate}
+use Rattle.task_isa.specs.declared.program.Program.{Program}
+use Rattle.prog_check.specs.Lookup.{timer_def}
+use Rattle.prog_check.specs.Accepted.{IsAccepted}
+use Rattle.fram_words.specs.declared.access.Access.TheVariants as fram
+use Rattle.fram_words.specs.declared.layout.Layout.{Layout}
+use Rattle.fram_words.specs.Words.{performed, zeros}
+use Rattle.fram_words.specs.Places.{Place, Code, Commit, Page, Log, Ring, Tail, Slot, Ack, Clock, Src, store}
+use Rattle.fram_words.specs.Shape.{is_valid, address, memory_of}
+use Rattle.fram_words.proofs.Addresses.{store_word}
+use Rattle.ink_layout.specs.Shape.{shape_of, words_of, IsOnBoard}
+use Rattle.ink_layout.specs.Addresses.{layout_address}
+use Rattle.ink_layout.specs.Layouts.{IsLayout}
+use Rattle.ink_layout.specs.Image.{first_due, timed_word, first_memory, Holds, IsFirstImage}
+use Rattle.ink_layout.specs.Stages.{code_until, with_blocks, put_word}
+use Rattle.ink_layout.proofs.Bounds.{few_words}
+use Rattle.ink_layout.proofs.Regions.{valid, below}
+use Rattle.ink_layout.proofs.Stages.{code_none}
+
+-- equal memories on the board
+pub holds_as : (program : Program) (words : List ℕ) (f g : Place → ℕ) → Holds program words f → ((q : Place) → IsOnBoard program q → f q ≡ g q) → Holds program words g
+holds_as program words f g h same = record { count = h.count; each = λ q on. h.each q on ∙ same q on }
+
+zero_at : (n k : ℕ) → let none : ℕ = 0 in get_or (replicate n none) k none ≡ none
+zero_at n k =
+    elim (cases_lt k n) [
+      | inl lt ↦ get_or-replicate n k 0 0 lt
+      | inr past ↦ get_or_past (zeros n) k 0 (let e : length (zeros n) ≡ n = length-replicate n 0 in omega arith)
+    ]
+
+pub holds_zeros : (program : Program) (n : ℕ) → n ≡ words_of (shape_of program) → Holds program (zeros n) (code_until program 0 0)
+holds_zeros program n e =
+    record {
+      count = length-replicate n 0 ∙ e;
+      each = λ q on. zero_there (is_valid (shape_of program) q) (address (shape_of program) q) ∙ code_none program q;
+    }
+  where
+    zero_there : (b : Rattle.std.proofs.Common.Bool) (a : ℕ) → cond b (get_or (zeros n) a 0) 0 ≡ 0
+    zero_there true a = zero_at n a
+    zero_there false a = refl
+
+-- the address of a place on the board
+pub within_words : (program : Program) (layout : Layout) (words : List ℕ) (f : Place → ℕ) (p : Place) (addr : ℕ) → IsLayout program layout → Holds program words f →
+    IsOnBoard program p → addr ≡ layout_address layout p → addr < length words
+within_words program layout words f p addr is h on e =
+    let a : layout_address layout p ≡ address (shape_of program) p = is.addresses p on in
+    let b : address (shape_of program) p < words_of (shape_of program) = below program p on in
+    omega (arith, h.count)
+
+pub within_count : (program : Program) (layout : Layout) (words : List ℕ) (p : Place) (addr : ℕ) → IsLayout program layout → length words ≡ words_of (shape_of program) →
+    IsOnBoard program p → addr ≡ layout_address layout p → addr < length words
+within_count program layout words p addr is count on e =
+    let a : layout_address layout p ≡ address (shape_of program) p = is.addresses p on in
+    let b : address (shape_of program) p < words_of (shape_of program) = below program p on in
+    omega arith
+
+pub few_before : (program : Program) (layout : Layout) (p : Place) (addr : ℕ) → IsAccepted program → IsLayout program layout → IsOnBoard program p →
+    addr ≡ layout_address layout p → addr < 100000
+few_before program layout p addr accepted is on e =
+    let a : layout_address layout p ≡ address (shape_of program) p = is.addresses p on in
+    let b : address (shape_of program) p < words_of (shape_of program) = below program p on in
+    let c : words_of (shape_of program) < 100000 = few_words program accepted in
+    omega arith
+
+-- a store at that address is a store at the place
+pub holds_store : (program : Program) (layout : Layout) (words : List ℕ) (f : Place → ℕ) (p : Place) (addr v : ℕ) → IsLayout program layout → Holds program words f →
+    IsOnBoard program p → addr ≡ layout_address layout p → Holds program (performed (fram.Store addr v) words) (store f p v)
+holds_store program layout words f p addr v is h on e =
+    let a : addr ≡ address (shape_of program) p = e ∙ is.addresses p on in
+    let lt : address (shape_of program) p < length words = let b = below program p on in omega (arith, h.count) in
+    record {
+      count = length-set words addr v ∙ h.count;
+      each = λ q on_q.
+          ap (λ n. memory_of (shape_of program) (performed (fram.Store n v) words) q) a
+          ∙ (ap (λ (m : Place → ℕ). m q) (store_word (shape_of program) words p v (valid program p on) lt)
+          ∙ ap (λ w. cond (Rattle.fram_words.specs.Places.same_place p q) v w) (h.each q on_q));
+    }
+
+pub holds_put : (program : Program) (layout : Layout) (words after : List ℕ) (f g : Place → ℕ) (p : Place) (addr v word : ℕ) → IsLayout program layout → Holds program words f →
+    IsOnBoard program p → addr ≡ layout_address layout p → after ≡ performed (fram.Store addr word) words → word ≡ v →
+    ((q : Place) → IsOnBoard program q → store f p v q ≡ g q) → Holds program after g
+holds_put program layout words after f g p addr v word is h on e stored value same =
+    let one : Holds program (performed (fram.Store addr v) words) (store f p v) = holds_store program layout words f p addr v is h on e in
+    let two : Holds program (performed (fram.Store addr word) words) (store f p v) =
+    subst (λ w. Holds program (performed (fram.Store addr w) words) (store f p v)) (sym value) one in
+    let three : Holds program after (store f p v) = subst (λ (ws : List ℕ). Holds program ws (store f p v)) (sym stored) two in
+    holds_as program after (store f p v) g three same
+
+-- the two words of a timer
+timed_here : (j thread due period u w other : ℕ) → 26 ≤ w → (w - 26) / 2 ≡ j →
+    cond ((u == thread) && (w == 26 + 2 * j + 1)) period (cond ((u == thread) && (w == 26 + 2 * j)) due (cond (nat_le 26 w && (nat_lt j j && (thread == u))) other 0))
+    ≡ cond (nat_le 26 w && (nat_lt j (j + 1) && (thread == u))) (cond (w % 2 == 0) due period) 0
+timed_here j thread due period u w other high here = grind (arith, nat_tests)
+
+-- one more timer
+pub timed_next : (program : Program) (j t due period u w : ℕ) → t ≡ (timer_def program j).thread.0 → due ≡ first_due (timer_def program j).due → period ≡ (timer_def program j).period →
+    put_word (put_word (timed_word program j) t (26 + 2 * j) due) t (26 + 2 * j + 1) period u w ≡ timed_word program (j + 1) u w
+timed_next program j t due period u w t_is due_is period_is =
+    elim (cases_lt w 26) [
+      | inl low ↦ grind (arith, nat_tests)
+      | inr high ↦ elim (cases_eq ((w - 26) / 2) j) [
+        | inl here ↦ rw (here, t_is, due_is, period_is) (timed_here j (timer_def program j).thread.0 (first_due (timer_def program j).due) (timer_def program j).period u w _ high here)
+        | inr there ↦ grind (arith, nat_tests)
+      ]
+    ]
+
+pub blocks_next : (program : Program) (j t due period : ℕ) → t ≡ (timer_def program j).thread.0 → due ≡ first_due (timer_def program j).due → period ≡ (timer_def program j).period →
+    (q : Place) → IsOnBoard program q →
+    with_blocks program (put_word (put_word (timed_word program j) t (26 + 2 * j) due) t (26 + 2 * j + 1) period) q ≡ with_blocks program (timed_word program (j + 1)) q
+blocks_next program j t due period t_is due_is period_is (Page u p b k) h = timed_next program j t due period u (8 * p + k) t_is due_is period_is
+blocks_next program j t due period t_is due_is period_is (Code y m) h = refl
+blocks_next program j t due period t_is due_is period_is (Commit u) h = refl
+blocks_next program j t due period t_is due_is period_is (Log u k) h = refl
+blocks_next program j t due period t_is due_is period_is (Ring u k) h = refl
+blocks_next program j t due period t_is due_is period_is (Tail u) h = refl
+blocks_next program j t due period t_is due_is period_is (Slot u k) h = refl
+blocks_next program j t due period t_is due_is period_is (Ack i) h = refl
+blocks_next program j t due period t_is due_is period_is Clock h = refl
+blocks_next program j t due period t_is due_is period_is (Src i) h = refl
+
+-- once all timers are written
+pub holds_first : (program : Program) (words : List ℕ) → Holds program words (with_blocks program (timed_word program (length program.timers))) → IsFirstImage program words
+holds_first program words h = holds_as program words (with_blocks program (timed_word program (length program.timers))) (first_memory program) h same
+  where
+    same : (q : Place) → IsOnBoard program q → with_blocks program (timed_word program (length program.timers)) q ≡ first_memory program q
+    same (Page u p b k) on = refl
+    same (Code y m) on = refl
+    same (Commit u) on = refl
+    same (Log u k) on = refl
+    same (Ring u k) on = refl
+    same (Tail u) on = refl
+    same (Slot u k) on = refl
+    same (Ack i) on = refl
+    same Clock on = refl
+    same (Src i) on = refl

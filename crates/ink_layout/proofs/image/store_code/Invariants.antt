@@ -1,0 +1,7 @@
+-- The code of the tasks before.
+use Rattle.ink_layout.specs.Image.{Holds}
+use Rattle.ink_layout.specs.Stages.{code_until}
+use Rattle.ink_layout.proofs.image.store_code.Given as goal
+
+abbrev pub invariant-loop-x : goal.invariant-loop-x
+invariant-loop-x l = Holds l.program l.fram (code_until l.program l.x 0)

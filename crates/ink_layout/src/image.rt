@@ -1,0 +1,195 @@
+//! The words of a board before its first charge.
+
+ghost use Rattle.std.specs.Prelude.{◌≡◌, ℕ, ◌+◌, ◌*◌, ◌/◌, ◌%◌, ◌<◌, ◌≤◌, length, IfOk};
+ghost use Rattle.prog_check.specs.Accepted.{IsAccepted};
+ghost use Rattle.prog_check.specs.Lookup.{thread_def, task_def};
+ghost use Rattle.fram_words.specs.Places.{Place, Code, Slot, Page, store};
+ghost use Rattle.ink_layout.specs.Image.{Holds, IsFirstImage, timed_word, first_due};
+ghost use Rattle.ink_layout.specs.Layouts.{IsLayout};
+ghost use Rattle.ink_layout.specs.Shape.{IsOnBoard, shape_of, words_of};
+ghost use Rattle.ink_layout.specs.Stages.{code_until, slots_until, with_blocks, put_word};
+
+use fram_words::{Access, Fram, Layout};
+use ink_base::{NoMemory, ThreadId};
+use prog_check::Accepted;
+use push_core::empty;
+use std::alloc::Global;
+use task_isa::{Instr, Program, encode};
+
+/// The words of a program's board before its first charge: the code words; in slot `n` of each queue the empty word of position `n`;
+/// in both copies of each thread's header the starting words of its timers; and zeros.
+pub fn first_image(alloc: Global, program: &Accepted, layout: &Layout) -> Result<Fram, NoMemory>
+    requires { IsLayout program.now layout.now }
+    ensures { IfOk result (λ fram. IsFirstImage program.now fram) }
+{
+    let program = program.program();
+    let mut fram = Fram::new(alloc, layout.words)?;
+    store_code(&mut fram, program, layout);
+    empty_queues(&mut fram, program, layout);
+    start_timers(&mut fram, program, layout);
+    Ok(fram)
+}
+
+fn store_code(fram: &mut Fram, program: &Program, layout: &Layout)
+    requires accepted { IsAccepted program.now }
+    requires layout { IsLayout program.now layout.now }
+    requires before { Holds program.now fram.old (code_until program.now 0 0) }
+    ensures { Holds program.now fram.new (code_until program.now (length program.now.tasks) 0) }
+{
+    for x in 0..program.tasks.len() {
+        store_task(fram, program, layout, x);
+    }
+}
+
+fn store_task(fram: &mut Fram, program: &Program, layout: &Layout, x: usize)
+    requires accepted { IsAccepted program.now }
+    requires layout { IsLayout program.now layout.now }
+    requires known { x < length program.now.tasks }
+    requires before { Holds program.now fram.old (code_until program.now x 0) }
+    ensures { Holds program.now fram.new (code_until program.now (x + 1) 0) }
+{
+    for n in 0..code_of(program, x).len() {
+        store_instr(fram, program, layout, x, n);
+    }
+}
+
+fn store_instr(fram: &mut Fram, program: &Program, layout: &Layout, x: usize, n: usize)
+    requires accepted { IsAccepted program.now }
+    requires layout { IsLayout program.now layout.now }
+    requires on_board { IsOnBoard program.now (Code x n) }
+    requires before { Holds program.now fram.old (code_until program.now x n) }
+    ensures { Holds program.now fram.new (code_until program.now x (n + 1)) }
+{
+    let word = encode(code_of(program, x)[n]);
+    let addr = layout.tasks.as_slice()[x] + n as u32;
+    fram.perform(Access::Store(addr, word));
+}
+
+// The code of a task.
+fn code_of(program: &Program, x: usize) -> &[Instr]
+    requires { x < length program.now.tasks }
+    ensures { result.now ≡ (task_def program.now x).code }
+{
+    program.tasks.as_slice()[x].code.as_slice()
+}
+
+fn empty_queues(fram: &mut Fram, program: &Program, layout: &Layout)
+    requires accepted { IsAccepted program.now }
+    requires layout { IsLayout program.now layout.now }
+    requires before { Holds program.now fram.old (slots_until program.now 0 0) }
+    ensures { Holds program.now fram.new (slots_until program.now (length program.now.threads) 0) }
+{
+    for t in 0..program.threads.len() {
+        empty_queue(fram, program, layout, t);
+    }
+}
+
+fn empty_queue(fram: &mut Fram, program: &Program, layout: &Layout, t: usize)
+    requires accepted { IsAccepted program.now }
+    requires layout { IsLayout program.now layout.now }
+    requires known { t < length program.now.threads }
+    requires before { Holds program.now fram.old (slots_until program.now t 0) }
+    ensures { Holds program.now fram.new (slots_until program.now (t + 1) 0) }
+{
+    for n in 0..queue_len(program, t) {
+        empty_slot(fram, program, layout, t, n);
+    }
+}
+
+fn empty_slot(fram: &mut Fram, program: &Program, layout: &Layout, t: usize, n: u32)
+    requires accepted { IsAccepted program.now }
+    requires layout { IsLayout program.now layout.now }
+    requires on_board { IsOnBoard program.now (Slot t n) }
+    requires before { Holds program.now fram.old (slots_until program.now t n) }
+    ensures { Holds program.now fram.new (slots_until program.now t (n + 1)) }
+{
+    let addr = layout.queues.as_slice()[t].slots + n;
+    fram.perform(Access::Store(addr, empty(n)));
+}
+
+// The number of slots of a thread's queue.
+fn queue_len(program: &Program, t: usize) -> u32
+    requires { t < length program.now.threads }
+    ensures { result ≡ (thread_def program.now t).queue }
+{
+    program.threads.as_slice()[t].queue as u32
+}
+
+fn start_timers(fram: &mut Fram, program: &Program, layout: &Layout)
+    requires accepted { IsAccepted program.now }
+    requires layout { IsLayout program.now layout.now }
+    requires before { Holds program.now fram.old (with_blocks program.now (timed_word program.now 0)) }
+    ensures { Holds program.now fram.new (with_blocks program.now (timed_word program.now (length program.now.timers))) }
+{
+    for j in 0..program.timers.len() {
+        start_timer(fram, program, layout, j);
+    }
+}
+
+fn start_timer(fram: &mut Fram, program: &Program, layout: &Layout, j: usize)
+    requires accepted { IsAccepted program.now }
+    requires layout { IsLayout program.now layout.now }
+    requires known { j < length program.now.timers }
+    requires before { Holds program.now fram.old (with_blocks program.now (timed_word program.now j)) }
+    ensures { Holds program.now fram.new (with_blocks program.now (timed_word program.now (j + 1))) }
+{
+    let timer = &program.timers.as_slice()[j];
+    let (thread, due, period) = (timer.thread, due_word(timer.due), timer.period as u64);
+    let word = 26 + 2 * j as u32;
+    put_both(fram, program, layout, thread, word, due);
+    put_both(fram, program, layout, thread, word + 1, period);
+}
+
+// 0 for off, else the tick at which a timer is first due, plus 1.
+fn due_word(due: Option<u32>) -> u64
+    ensures { result ≡ first_due due }
+{
+    match due {
+        Some(tick) => tick as u64 + 1,
+        None => 0,
+    }
+}
+
+// Stores a word of a thread's header in both copies of its page.
+fn put_both(
+    fram: &mut Fram,
+    program: &Program,
+    layout: &Layout,
+    thread: ThreadId,
+    word: u32,
+    value: u64,
+)
+    requires accepted { IsAccepted program.now }
+    requires layout { IsLayout program.now layout.now }
+    requires known { thread.0 < length program.now.threads }
+    requires within { word < 48 }
+    requires count { length fram.old ≡ words_of (shape_of program.now) }
+    ensures stored { (block : ℕ → ℕ → ℕ) → Holds program.now fram.old (with_blocks program.now block) → Holds program.now fram.new (with_blocks program.now (put_word block thread.0 word value)) }
+    ensures count { length fram.new ≡ words_of (shape_of program.now) }
+{
+    put_copy(fram, program, layout, thread, word, 0, value);
+    put_copy(fram, program, layout, thread, word, 1, value);
+}
+
+fn put_copy(
+    fram: &mut Fram,
+    program: &Program,
+    layout: &Layout,
+    thread: ThreadId,
+    word: u32,
+    copy: u32,
+    value: u64,
+)
+    requires accepted { IsAccepted program.now }
+    requires layout { IsLayout program.now layout.now }
+    requires known { thread.0 < length program.now.threads }
+    requires within { word < 48 }
+    requires two { copy < 2 }
+    requires count { length fram.old ≡ words_of (shape_of program.now) }
+    ensures stored { (memory : Place → ℕ) → Holds program.now fram.old memory → Holds program.now fram.new (store memory (Page thread.0 (word / 8) copy (word % 8)) value) }
+    ensures count { length fram.new ≡ words_of (shape_of program.now) }
+{
+    let first = layout.threads.as_slice()[thread.0 as usize].first;
+    let addr = first + 16 * (word / 8) + 8 * copy + word % 8;
+    fram.perform(Access::Store(addr, value));
+}
