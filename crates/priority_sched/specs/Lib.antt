@@ -1,2 +1,4 @@
 pub mod Order
 pub mod Scan
+pub mod Knows
+pub mod Laws

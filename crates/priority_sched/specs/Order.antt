@@ -1,5 +1,5 @@
 -- The order in which a scan visits the threads.
-use Rattle.std.specs.Prelude.{ℕ, zero, suc, ◌&&◌, nat_lt, Bool, true, length, if◌then◌else◌, Option, Some, None}
+use Rattle.std.specs.Prelude.{ℕ, zero, suc, ◌<◌, ◌≤◌, ◌&&◌, nat_lt, Bool, true, length, if◌then◌else◌, Option, Some, None}
 use Rattle.ink_base.specs.declared.ids.ThreadId.{ThreadId}
 use Rattle.task_isa.specs.declared.program.Program.{Program}
 use Rattle.prog_check.specs.Lookup.{thread_def}
@@ -28,3 +28,10 @@ next_among program bound (suc t) = better program bound t (next_among program bo
 -- and among all
 abbrev pub next_below : Program → (bound : ℕ) → Option ThreadId
 next_below program bound = next_among program bound (length program.threads)
+
+-- A thread of the first so many has the greatest priority below the bound, or there is none below it.
+abbrev pub IsHighest : Program → (bound count : ℕ) → Option ThreadId → Type 0
+IsHighest program bound count None = (u : ℕ) → u < count → bound ≤ priority_of program u
+IsHighest program bound count (Some t) =
+    (t.0 < count) × (priority_of program t.0 < bound)
+    × ((u : ℕ) → u < count → priority_of program u < bound → priority_of program u ≤ priority_of program t.0)

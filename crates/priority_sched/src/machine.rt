@@ -14,7 +14,7 @@ use crate::scan_at::ScanAt;
 use crate::scanned::Scanned;
 use fram_words::{Access, Layout};
 use ink_base::{Event, TaskId, ThreadId};
-use ink_layout::{KernelPoint, Pick, SlotAt};
+use ink_layout::{KernelPoint, Pick, Plan, SlotAt};
 use reboot::{header_at, slot_at};
 use task_isa::Program;
 
@@ -50,7 +50,38 @@ impl ScanMachine {
         }
     }
 
-    /// The next access. Once the scan is over there is none to make.
+    /// The next access, at the address that the plan's layout gives its place. Once the scan is over there is none to make, and the
+    /// answer means nothing.
+    pub fn want(&self, plan: &Plan) -> Access
+        requires { IsScan plan.now.accepted self.now }
+        ensures { result ≡ at_layout plan.now.layout (scan_wants plan.now.accepted self.now.thread.0 self.now.at) }
+    {
+        self.access(plan.program(), &plan.layout)
+    }
+
+    /// Takes the word that the wanted access found, goes on to the row that follows, and answers what the access stands for. A scan that
+    /// is over stays as it is.
+    pub fn take(&mut self, plan: &Plan, word: u64) -> KernelPoint
+        requires row { IsScan plan.now.accepted self.old }
+        requires range { IsScanWord plan.now.accepted self.old.at word }
+        ensures taken { self.new ≡ scan_takes plan.now.accepted self.old.thread self.old.time self.old.at word }
+        ensures point { result ≡ scan_point self.old.thread self.old.at word }
+    {
+        let point = self.point(word);
+        *self = self.following(plan.program(), word);
+        point
+    }
+
+    /// The queue and the position of the event that the wanted access looks for; none exactly where it loads no slot.
+    pub fn slot_wanted(&self, plan: &Plan) -> Option<SlotAt>
+        requires { IsScan plan.now.accepted self.now }
+        ensures { result ≡ scan_slot self.now.thread self.now.at }
+    {
+        let _plan = plan;
+        self.slot()
+    }
+
+    /// The access of the row.
     fn access(self, program: &Program, layout: &Layout) -> Access
         requires accepted { IsAccepted program.now }
         requires layout { FitsLayout program.now layout.now }
