@@ -12,3 +12,5 @@ pub mod Outputs
 pub mod SoundParts
 pub mod SoundSteps
 pub mod Picks
+pub mod SoundCommits
+pub mod SoundStates

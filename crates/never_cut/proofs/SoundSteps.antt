@@ -167,7 +167,7 @@ thread_changes program m next t x lt is = (
   λ u ne. ap (λ (l : List ThreadModel). get_or l u no_thread) is ∙ thread_of-with_other m t u x ne,
 )
 
-idle_with : (m next : Model) (t : ℕ) (x : ThreadModel) → (thread_of next t ≡ x) × ((u : ℕ) → u ≢ t → thread_of next u ≡ thread_of m u) → x.running ≡ None → AreIdle m → AreIdle next
+pub idle_with : (m next : Model) (t : ℕ) (x : ThreadModel) → (thread_of next t ≡ x) × ((u : ℕ) → u ≢ t → thread_of next u ≡ thread_of m u) → x.running ≡ None → AreIdle m → AreIdle next
 idle_with m next t x changes idle h u =
     elim (cases_eq u t) [
       | inl same ↦ ap (λ v. (thread_of next v).running) same ∙ ap (λ (z : ThreadModel). z.running) changes.0 ∙ idle
