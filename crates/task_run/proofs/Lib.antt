@@ -1,1 +1,15 @@
+pub mod Accesses
+pub mod Acts
+pub mod Begins
+pub mod Commits
+pub mod Committing
+pub mod Effects
+pub mod Ends
+pub mod Events
 pub mod Firsts
+pub mod Instrs
+pub mod Keeps
+pub mod Kept
+pub mod Outlasts
+pub mod Runs
+pub mod Words

@@ -1,12 +1,12 @@
 -- The ranges in which an access of a task can be made.
-use Rattle.std.specs.Prelude.{◌≡◌, ◌≢◌, ℕ, ◌+◌, ◌^◌, ◌<◌, length}
+use Rattle.std.specs.Prelude.{ℕ, ◌+◌, ◌^◌, ◌<◌, length}
 use Rattle.ink_base.specs.declared.event.Origin.{Origin}
 use Rattle.ink_base.specs.declared.event.Origin.TheVariants as origins
 use Rattle.task_isa.specs.declared.program.Program.{Program}
 use Rattle.prog_check.specs.Lookup.{thread_def, task_def}
 use Rattle.task_run.specs.declared.execution.Execution.{Execution}
 use Rattle.task_run.specs.declared.phase.Phase.{Phase}
-use Rattle.task_run.specs.declared.phase.Phase.TheVariants.{WriteFirst, WriteOrigin, WriteValue, Fetch, ReadState, WriteState, ReadCount, StoreLog, WriteCount, WriteNext, WriteFinished, ReadTotal, WriteTotal, WriteStamp, StoreCommit, StoreAck, StoreEmpty, Over}
+use Rattle.task_run.specs.declared.phase.Phase.TheVariants.{WriteOrigin, Fetch, ReadState, WriteState, StoreLog, WriteCount, ReadTotal, StoreAck, Over}
 use Rattle.task_run.specs.declared.machine.TaskMachine.{TaskMachine}
 
 -- an instruction of the task is executed

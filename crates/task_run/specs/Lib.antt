@@ -2,3 +2,5 @@ pub mod Buffers
 pub mod Endings
 pub mod Machine
 pub mod Fits
+pub mod Serving
+pub mod Knows

@@ -1,5 +1,5 @@
 -- The machine that serves one pick: in each phase one access, and the registers after it.
-use Rattle.std.specs.Prelude.{ℕ, ◌+◌, ◌*◌, ◌/◌, ◌%◌, ◌^◌, nat_lt, Bool, true, false, if◌then◌else◌, List, replicate, slice_index, Option, Some, None}
+use Rattle.std.specs.Prelude.{ℕ, ◌+◌, ◌*◌, ◌/◌, ◌%◌, ◌^◌, nat_lt, Bool, true, false, if◌then◌else◌, replicate, Option, Some, None}
 use Rattle.ink_base.specs.declared.ids.TaskId.{TaskId}
 use Rattle.ink_base.specs.declared.event.Origin.{Origin}
 use Rattle.ink_base.specs.declared.event.Origin.TheVariants as origins

@@ -1,15 +1,18 @@
 //! The machine that serves one pick.
 
 ghost use Rattle.std.specs.Prelude.{◌≡◌};
+ghost use Rattle.ink_layout.specs.Addresses.{at_layout};
 ghost use Rattle.task_run.specs.Machine as machine;
+ghost use Rattle.task_run.specs.Fits.{FitsTask};
 
 use crate::buffer::Buffer;
 use crate::ending::Ending;
 use crate::execution::Execution;
 use crate::following::first_phase;
 use crate::phase::Phase;
+use fram_words::Access;
 use ink_base::TaskId;
-use ink_layout::{KernelPoint, Pick, SlotAt};
+use ink_layout::{KernelPoint, Pick, Plan, SlotAt};
 
 /// The machine that serves one pick, by its registers: the pick, the kernel's stamp (the number of commits before this one), the
 /// registers of the thread's writes, how the task ends as far as is known, how far its run is, and the access that comes next.
@@ -45,27 +48,48 @@ impl TaskMachine {
         matches!(self.phase, Phase::Over)
     }
 
-    /// What the access that is wanted means to the never-cut kernel.
-    pub(crate) fn point(&self) -> KernelPoint
-        ensures { result ≡ machine.point self.now }
+    /// The next access, to an address of the plan's layout.
+    pub fn want(&self, plan: &Plan) -> Access
+        requires { FitsTask plan.now.accepted self.now 0 }
+        ensures { result ≡ at_layout plan.now.layout (machine.want plan.now.accepted self.now) }
     {
-        match self.phase {
-            Phase::StoreCommit => KernelPoint::Commit(self.pick.thread),
-            Phase::StoreEmpty => KernelPoint::Release(self.pick.thread),
-            _ => KernelPoint::Nothing,
-        }
+        self.access(plan.program(), &plan.layout)
     }
 
-    /// The event that the wanted access acknowledges or releases.
-    pub(crate) fn slot_at(&self) -> Option<SlotAt>
+    /// Takes the word that the wanted access found, goes on to the next access, and answers what the access means to the never-cut kernel.
+    pub fn take(&mut self, plan: &Plan, word: u64) -> KernelPoint
+        requires { FitsTask plan.now.accepted self.old word }
+        ensures registers { self.new ≡ machine.take plan.now.accepted self.old word }
+        ensures point { result ≡ machine.point self.old }
+    {
+        let point = self.point();
+        self.go_on(plan.program(), word);
+        point
+    }
+
+    /// The queue and the position of the event that the wanted access acknowledges or releases; none exactly where it is another access.
+    pub fn slot_wanted(&self, plan: &Plan) -> Option<SlotAt>
+        requires { FitsTask plan.now.accepted self.now 0 }
         ensures { result ≡ machine.slot_at self.now self.now.phase }
     {
+        let _plan = plan;
         match self.phase {
             Phase::StoreAck { .. } | Phase::StoreEmpty => Some(SlotAt {
                 thread: self.pick.thread,
                 position: self.pick.position,
             }),
             _ => None,
+        }
+    }
+
+    // What the access that is wanted means to the never-cut kernel.
+    fn point(&self) -> KernelPoint
+        ensures { result ≡ machine.point self.now }
+    {
+        match self.phase {
+            Phase::StoreCommit => KernelPoint::Commit(self.pick.thread),
+            Phase::StoreEmpty => KernelPoint::Release(self.pick.thread),
+            _ => KernelPoint::Nothing,
         }
     }
 }

@@ -1,0 +1,238 @@
+-- Each access before the commit keeps what is known while a pick is served.
+use Rattle.std.proofs.Common.{◌≡◌, ℕ, ◌+◌, ◌-◌, ◌/◌, ◌<◌, ◌≤◌, cond, List, length, get_or, arith, refl, ap, ◌∙◌, sym, inl, inr, subst}
+use Rattle.std.proofs.Math.Path.{fun_ext}
+use Rattle.std.proofs.lemmas.Bool.{cases_Bool, cases_eq, ltb-true, ltb-false}
+use Rattle.std.proofs.lemmas.Nat.Bits.{bit_at-lt}
+use Rattle.std.specs.Prelude.{nat_lt}
+use Rattle.std.specs.Int.{bit_at}
+use Rattle.fram_words.specs.Places.{Commit, Log, Memory, store, perform, answer}
+use Rattle.thread_state.specs.Pages.{place_in, working, working_mask, no_writes, Buffer, Copying, Loading, Storing, Buffered, IsCopied, IsUnderWay, put, is_dirty, put_access, copy_access, after_copy}
+use Rattle.thread_state.proofs.Pages.{copy_only, dirty_put_only, copy_working, copy_goes_on, put_working, is_dirty-true, is_dirty-false, no_writes_words}
+use Rattle.task_isa.specs.declared.program.Program.{Program}
+use Rattle.task_isa.specs.Acts.{Cpu}
+use Rattle.task_isa.specs.Meaning.{run}
+use Rattle.prog_check.specs.Lookup.{thread_def, task_def}
+use Rattle.ink_layout.specs.declared.pick.Pick.{Pick}
+use Rattle.never_cut.specs.declared.model.Model.{Model}
+use Rattle.never_cut.specs.Stands.{Saved, saved, thread_words, origin_word, log_of, AreLogged, StandsPrivate}
+use Rattle.never_cut.specs.Sound.{HasShape}
+use Rattle.never_cut.specs.Picked.{IsPicked}
+use Rattle.task_run.specs.declared.ending.Ending.{Ending}
+use Rattle.task_run.specs.declared.ending.Ending.TheVariants as endings
+use Rattle.task_run.specs.declared.execution.Execution.{Execution}
+use Rattle.task_run.specs.declared.phase.Phase.{Phase}
+use Rattle.task_run.specs.declared.phase.Phase.TheVariants.{WriteFirst, Fetch}
+use Rattle.task_run.specs.declared.machine.TaskMachine.{TaskMachine}
+use Rattle.task_run.specs.Machine.{Action, Put, Get, Make, action, trap, phase_again, proceed, stepped}
+use Rattle.task_run.specs.Serving.{Assignment, assignment, whole, begun, with_effects, config_of, IsTrap, Progress, IsReady, Serving}
+
+-- an action that has not begun to copy
+pub ready_fresh : (words : Memory) (t : ℕ) (b : Buffer) (a : Action) → b.copying ≡ Loading 0 → IsReady words t b a
+ready_fresh words t b (Get w) fresh = fresh
+ready_fresh words t b (Make x) fresh = fresh
+ready_fresh words t b (Put w v) fresh =
+    let lt : bit_at b.dirty (w / 8) < 2 = bit_at-lt b.dirty (w / 8) in
+    elim (cases_eq (bit_at b.dirty (w / 8)) 0) [
+      | inl e ↦ inl (e, subst (λ x. IsCopied words t b.commit (w / 8) x) (sym fresh) (omega arith, λ j lt. absurd (omega arith)))
+      | inr ne ↦ inr (omega arith, fresh)
+    ]
+
+after_copy-commit : (b : Buffer) (p : ℕ) (x : Copying) (word : ℕ) → (after_copy b p x word).commit ≡ b.commit
+after_copy-commit b p (Loading k) word = refl
+after_copy-commit b p (Storing k v) word = refl
+
+-- the pick is as it was where the thread's commit word is
+pub picked_at : (program : Program) (words new : Memory) (m : Model) (pick : Pick) → new (Commit pick.thread.0) ≡ words (Commit pick.thread.0) →
+    IsPicked program words m pick → IsPicked program new m pick
+picked_at program words new m pick same p = record {
+  known = p.known;
+  calm = p.calm;
+  scan = p.scan;
+  scanned = p.scanned;
+  time = p.time;
+  passed = p.passed;
+  pending_is = p.pending_is;
+  first = p.first;
+  idle = p.idle;
+  running = p.running;
+  position = p.position;
+  commit_word = p.commit_word ∙ sym same;
+}
+
+-- one access of the copying of a clean page
+copy_serving : (program : Program) (m : Model) (words : Memory) (r : TaskMachine) (w v : ℕ) → Serving program words m r →
+    ((b : Buffer) → action program (record r { buffer = b }) r.phase ≡ Put w v) →
+    bit_at r.buffer.dirty (w / 8) ≡ 0 → IsCopied words r.pick.thread.0 r.buffer.commit (w / 8) r.buffer.copying →
+    Serving program (perform words (copy_access r.pick.thread.0 r.buffer.commit (w / 8) r.buffer.copying)) m
+    (record r { buffer = after_copy r.buffer (w / 8) r.buffer.copying (answer words (copy_access r.pick.thread.0 r.buffer.commit (w / 8) r.buffer.copying)) })
+copy_serving program m words r w v h act clean copied =
+    let t : ℕ = r.pick.thread.0 in
+    let b : Buffer = r.buffer in
+    let p : ℕ = w / 8 in
+    let x : Copying = r.buffer.copying in
+    let n : Memory = perform words (copy_access t b.commit p x) in
+    let b' : Buffer = after_copy b p x (answer words (copy_access t b.commit p x)) in
+    let log : log_of words t ≡ log_of n t = fun_ext (λ k. sym (copy_only words t b.commit p x (Log t k) tt)) in
+    record {
+      y = h.y;
+      s = h.s;
+      o = h.o;
+      v = h.v;
+      picked = picked_at program words n m r.pick (copy_only words t b.commit p x (Commit t) tt) h.picked;
+      stamp = h.stamp;
+      buffered = record {
+        commit = after_copy-commit b p x (answer words (copy_access t b.commit p x)) ∙ (h.buffered.commit ∙ sym (copy_only words t b.commit p x (Commit t) tt));
+        words = λ k. copy_working words t b p x k clean copied ∙ h.buffered.words k;
+      };
+      ready = subst (λ a. IsReady n t b' a) (sym (act b')) (copy_goes_on words t b p x clean copied);
+      logged = subst (λ l. AreLogged l h.y.outputs) log h.logged;
+      size = h.size;
+      progress = subst (λ l. Progress (saved program m t) (assignment program m r.pick) r.pick r.stamp r.ending r.execution l r.phase h.y h.s h.o h.v) log h.progress;
+    }
+
+-- one access of a write, which is done where the page is dirty
+pub put_step : (program : Program) (m : Model) (words : Memory) (r : TaskMachine) (w v : ℕ) (next : TaskMachine) → Serving program words m r →
+    ((b : Buffer) → action program (record r { buffer = b }) r.phase ≡ Put w v) →
+    (bit_at r.buffer.dirty (w / 8) ≡ 1 → r.buffer.copying ≡ Loading 0 →
+    Serving program (store words (place_in r.pick.thread.0 (working_mask r.buffer) w) v) m next) →
+    Serving program (perform words (put_access r.pick.thread.0 r.buffer w v)) m
+    (cond (is_dirty r.buffer (w / 8)) next
+    (record r { buffer = after_copy r.buffer (w / 8) r.buffer.copying (answer words (put_access r.pick.thread.0 r.buffer w v)) }))
+put_step program m words r w v next h act done =
+    let under : IsUnderWay words r.pick.thread.0 r.buffer (w / 8) = subst (λ a. IsReady words r.pick.thread.0 r.buffer a) (act r.buffer) h.ready in
+    elim under [
+      | inl c ↦ rw (is_dirty-false r.buffer (w / 8) c.0) (copy_serving program m words r w v h act c.0 c.1)
+      | inr d ↦ rw (is_dirty-true r.buffer (w / 8) d.0) (done d.0 d.1)
+    ]
+
+-- all that does not depend on the phase
+pub record Holding (program : Program) (words : Memory) (m : Model) (r : TaskMachine) (y : Saved) (s o v : ℕ) : Type 0 where
+  pub picked : IsPicked program words m r.pick
+  pub stamp : r.stamp ≡ m.commits
+  pub buffered : Buffered words r.pick.thread.0 r.buffer (λ k. get_or (thread_words y s o v) k 0)
+  pub fresh : r.buffer.copying ≡ Loading 0
+  pub logged : AreLogged (log_of words r.pick.thread.0) y.outputs
+  pub size : length y.state ≡ (thread_def program r.pick.thread.0).state
+
+-- between two actions
+pub holding_load : (program : Program) (m : Model) (words : Memory) (r : TaskMachine) → (h : Serving program words m r) → r.buffer.copying ≡ Loading 0 →
+    Holding program words m r h.y h.s h.o h.v
+holding_load program m words r h fresh =
+    record { picked = h.picked; stamp = h.stamp; buffered = h.buffered; fresh = fresh; logged = h.logged; size = h.size }
+
+-- after the write on the dirty page
+pub holding_put : (program : Program) (m : Model) (words : Memory) (r : TaskMachine) (w u : ℕ) (y : Saved) (s o v : ℕ) →
+    (h : Serving program words m r) →
+    bit_at r.buffer.dirty (w / 8) ≡ 1 → r.buffer.copying ≡ Loading 0 →
+    ((k : ℕ) → put (λ j. get_or (thread_words h.y h.s h.o h.v) j 0) w u k ≡ get_or (thread_words y s o v) k 0) →
+    AreLogged (log_of words r.pick.thread.0) y.outputs →
+    length y.state ≡ (thread_def program r.pick.thread.0).state →
+    Holding program (store words (place_in r.pick.thread.0 (working_mask r.buffer) w) u) m r y s o v
+holding_put program m words r w u y s o v h dirty fresh contents logged size =
+    let t : ℕ = r.pick.thread.0 in
+    let b : Buffer = r.buffer in
+    let n : Memory = store words (place_in t (working_mask b) w) u in
+    let log : log_of words t ≡ log_of n t = fun_ext (λ k. sym (dirty_put_only words t (working_mask b) w u (Log t k) tt)) in
+    record {
+      picked = picked_at program words n m r.pick (dirty_put_only words t (working_mask b) w u (Commit t) tt) h.picked;
+      stamp = h.stamp;
+      buffered = record {
+        commit = h.buffered.commit ∙ sym (dirty_put_only words t (working_mask b) w u (Commit t) tt);
+        words = λ k. put_working words t b w u k (λ j. get_or (thread_words h.y h.s h.o h.v) j 0) h.buffered.words ∙ contents k;
+      };
+      fresh = fresh;
+      logged = subst (λ l. AreLogged l y.outputs) log logged;
+      size = size;
+    }
+
+-- the next phase, with what the run has come to
+pub serving_at : (program : Program) (m : Model) (words : Memory) (r : TaskMachine) (e : Execution) (phase : Phase) (y : Saved) (s o v : ℕ) →
+    Holding program words m r y s o v →
+    Progress (saved program m r.pick.thread.0) (assignment program m r.pick) r.pick r.stamp r.ending e (log_of words r.pick.thread.0) phase y s o v →
+    Serving program words m (record r { execution = e; phase = phase })
+serving_at program m words r e phase y s o v h progress = record {
+  y = y;
+  s = s;
+  o = o;
+  v = v;
+  picked = h.picked;
+  stamp = h.stamp;
+  buffered = h.buffered;
+  ready = ready_fresh words r.pick.thread.0 r.buffer (action program (record r { execution = e; phase = phase }) phase) h.fresh;
+  logged = h.logged;
+  size = h.size;
+  progress = progress;
+}
+
+-- what the working copy is without writes
+pub unwritten : (program : Program) (m : Model) (words : Memory) (t commit : ℕ) (h : Rattle.never_cut.specs.Stands.StandsThread words program m t) →
+    commit ≡ words (Commit t) → Buffered words t (no_writes commit) (λ k. get_or (thread_words (saved program m t) h.stamp h.origin h.value) k 0)
+unwritten program m words t commit h is = record {
+  commit = is;
+  words = λ k. ap (λ c. working words t (no_writes c) k) is ∙ (no_writes_words words t k ∙ h.block k);
+}
+
+-- a trap: the working copy is the committed one again
+pub trap_serving : (program : Program) (m : Model) (words : Memory) (r : TaskMachine) → StandsPrivate words program m → HasShape program m →
+    IsPicked program words m r.pick → r.stamp ≡ m.commits → r.buffer.commit ≡ words (Commit r.pick.thread.0) →
+    IsTrap (whole (assignment program m r.pick) (saved program m r.pick.thread.0)) → Serving program words m (trap r)
+trap_serving program m words r stands shape picked stamp is ends =
+    let t : ℕ = r.pick.thread.0 in
+    let x = stands.threads t picked.known in
+    let begins : Serving program words m (record r { buffer = no_writes r.buffer.commit; ending = endings.Trapped; phase = WriteFirst }) = record {
+      y = saved program m t;
+      s = x.stamp;
+      o = x.origin;
+      v = x.value;
+      picked = picked;
+      stamp = stamp;
+      buffered = unwritten program m words t r.buffer.commit x is;
+      ready = ready_fresh words t (no_writes r.buffer.commit) (action program (trap r) WriteFirst) refl;
+      logged = x.log;
+      size = shape.states t picked.known;
+      progress = (refl, inr (refl, ends));
+    } in
+    subst (λ running. Serving program words m (record r { buffer = no_writes r.buffer.commit; ending = endings.Trapped; phase = phase_again running })) (sym picked.running) begins
+
+-- the run may go on from here, with `left` instructions
+pub record Going (x : Saved) (a : Assignment) (pick : Pick) (stamp : ℕ) (ending : Ending) (e : Execution) (cpu : Cpu) (y : Saved) (o v : ℕ) : Type 0 where
+  pub outs : List ℕ
+  pub made : y ≡ with_effects (stamp + 1) pick.thread.0 y.state outs (begun pick x)
+  pub rest : run a.code a.given a.room (a.limit - (e.executed + 1)) (config_of (stepped e cpu) y outs) ≡ whole a x
+  pub task : e.task.0 ≡ a.task
+  pub inside : cpu.at < length a.code
+  pub plain : ending ≡ endings.Done
+  pub origin : o ≡ origin_word pick.event.origin
+  pub value : v ≡ pick.event.value
+
+-- an instruction is done
+pub proceed_serving : (program : Program) (m : Model) (words : Memory) (r : TaskMachine) (cpu : Cpu) (y : Saved) (s o v : ℕ) →
+    StandsPrivate words program m → HasShape program m → Holding program words m r y s o v →
+    Going (saved program m r.pick.thread.0) (assignment program m r.pick) r.pick r.stamp r.ending r.execution cpu y o v →
+    Serving program words m (proceed program r cpu)
+proceed_serving program m words r cpu y s o v stands shape h g =
+    let a : Assignment = assignment program m r.pick in
+    let x : Saved = saved program m r.pick.thread.0 in
+    let done : ℕ = r.execution.executed + 1 in
+    let same : (task_def program r.execution.task.0).limit ≡ a.limit = ap (λ k. (task_def program k).limit) g.task in
+    rw same
+    elim (cases_Bool (nat_lt done a.limit)) [
+      | inl t ↦
+          rw t (serving_at program m words r (stepped r.execution cpu) Fetch y s o v h (record {
+            outs = g.outs;
+            made = g.made;
+            rest = g.rest;
+            left = ltb-true done a.limit t;
+            task = g.task;
+            inside = g.inside;
+            plain = g.plain;
+            origin = g.origin;
+            value = g.value;
+          }))
+      | inr f ↦
+          let over : a.limit ≤ done = ltb-false done a.limit f in
+          let none : a.limit - done ≡ 0 = omega arith in
+          let ends : whole a x ≡ run a.code a.given a.room 0 (config_of (stepped r.execution cpu) y g.outs) =
+          sym g.rest ∙ ap (λ k. run a.code a.given a.room k (config_of (stepped r.execution cpu) y g.outs)) none
+          in rw f (trap_serving program m words r stands shape h.picked h.stamp h.buffered.commit (subst (λ z. IsTrap z) (sym ends) tt))
+    ]

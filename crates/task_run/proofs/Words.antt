@@ -1,0 +1,99 @@
+-- Writes and reads of the words of a thread's block.
+use Rattle.std.proofs.Common.{◌≡◌, ℕ, ◌+◌, ◌-◌, ◌<◌, List, [], ◌∷◌, ◌++◌, length, get_or, set, arith, refl, ap, ◌∙◌, sym, inl, inr}
+use Rattle.std.proofs.lemmas.Bool.{cases_eq, eq-eqb, ne_eqb}
+use Rattle.std.proofs.lemmas.List.{get_or-set_same, get_or-set_other, get_or-append-add, set-append_right}
+use Rattle.ink_base.specs.declared.output.Output.{Output}
+use Rattle.thread_state.specs.Pages.{put}
+use Rattle.never_cut.specs.Stands.{Saved, thread_words, next_word}
+use Rattle.task_run.specs.declared.ending.Ending.{Ending}
+use Rattle.task_run.specs.declared.ending.Ending.TheVariants as endings
+use Rattle.task_run.specs.Endings.{total_word}
+use Rattle.task_run.specs.Serving.{rested, finish, total_of, with_total}
+
+pub put_set : (xs : List ℕ) (i v w : ℕ) → i < length xs → put (λ k. get_or xs k 0) i v w ≡ get_or (set xs i v) w 0
+put_set xs i v w lt =
+    elim (cases_eq w i) [
+      | inl e ↦ rw (eq-eqb w i e) (sym (ap (λ k. get_or (set xs i v) k 0) e ∙ get_or-set_same xs i v 0 lt))
+      | inr ne ↦ rw (ne_eqb w i ne) (sym (get_or-set_other xs i w v 0 ne))
+    ]
+
+-- the words before the state
+abbrev header : Saved → ℕ → ℕ → ℕ → List ℕ
+header y s o v =
+    s ∷ next_word y.running ∷ y.first ∷ o ∷ v ∷ y.ended ∷ y.served ∷ y.trapped ∷ y.expired ∷ length y.outputs
+    ∷ y.written 0 ∷ y.written 1 ∷ y.written 2 ∷ y.written 3 ∷ y.written 4 ∷ y.written 5 ∷ y.written 6 ∷ y.written 7
+    ∷ y.taken 0 ∷ y.taken 1 ∷ y.taken 2 ∷ y.taken 3 ∷ y.taken 4 ∷ y.taken 5 ∷ y.taken 6 ∷ y.taken 7
+    ∷ y.due 0 ∷ y.period 0 ∷ y.due 1 ∷ y.period 1 ∷ y.due 2 ∷ y.period 2 ∷ y.due 3 ∷ y.period 3
+    ∷ y.due 4 ∷ y.period 4 ∷ y.due 5 ∷ y.period 5 ∷ y.due 6 ∷ y.period 6 ∷ y.due 7 ∷ y.period 7
+    ∷ 0 ∷ 0 ∷ 0 ∷ 0 ∷ 0 ∷ 0 ∷ []
+
+pub words-length : (y : Saved) (s o v : ℕ) → length (thread_words y s o v) ≡ 48 + length y.state
+unfolding thread_words
+words-length y s o v = omega arith
+
+-- the writes to the header
+pub words-stamp : (y : Saved) (s o v n w : ℕ) → put (λ k. get_or (thread_words y s o v) k 0) 0 n w ≡ get_or (thread_words y n o v) w 0
+unfolding thread_words
+words-stamp y s o v n w = put_set (thread_words y s o v) 0 n w (omega (arith, words-length y s o v))
+
+pub words-rested : (y : Saved) (s o v w : ℕ) → put (λ k. get_or (thread_words y s o v) k 0) 1 0 w ≡ get_or (thread_words (rested y) s o v) w 0
+unfolding thread_words
+words-rested y s o v w = put_set (thread_words y s o v) 1 0 w (omega (arith, words-length y s o v))
+
+pub words-first : (y : Saved) (s o v n w : ℕ) → put (λ k. get_or (thread_words y s o v) k 0) 2 n w ≡ get_or (thread_words (record y { first = n }) s o v) w 0
+unfolding thread_words
+words-first y s o v n w = put_set (thread_words y s o v) 2 n w (omega (arith, words-length y s o v))
+
+pub words-origin : (y : Saved) (s o v n w : ℕ) → put (λ k. get_or (thread_words y s o v) k 0) 3 n w ≡ get_or (thread_words y s n v) w 0
+unfolding thread_words
+words-origin y s o v n w = put_set (thread_words y s o v) 3 n w (omega (arith, words-length y s o v))
+
+pub words-value : (y : Saved) (s o v n w : ℕ) → put (λ k. get_or (thread_words y s o v) k 0) 4 n w ≡ get_or (thread_words y s o n) w 0
+unfolding thread_words
+words-value y s o v n w = put_set (thread_words y s o v) 4 n w (omega (arith, words-length y s o v))
+
+pub words-finish : (y : Saved) (s o v w : ℕ) → put (λ k. get_or (thread_words y s o v) k 0) 5 (y.ended + 1) w ≡ get_or (thread_words (finish y) s o v) w 0
+unfolding thread_words
+words-finish y s o v w = put_set (thread_words y s o v) 5 (y.ended + 1) w (omega (arith, words-length y s o v))
+
+pub words-total : (ending : Ending) (y : Saved) (s o v n w : ℕ) →
+    put (λ k. get_or (thread_words y s o v) k 0) (total_word ending) n w ≡ get_or (thread_words (with_total ending n y) s o v) w 0
+unfolding thread_words
+words-total (endings.Next task) y s o v n w = put_set (thread_words y s o v) 6 n w (omega (arith, words-length y s o v))
+words-total endings.Done y s o v n w = put_set (thread_words y s o v) 6 n w (omega (arith, words-length y s o v))
+words-total endings.Trapped y s o v n w = put_set (thread_words y s o v) 7 n w (omega (arith, words-length y s o v))
+words-total endings.Expired y s o v n w = put_set (thread_words y s o v) 8 n w (omega (arith, words-length y s o v))
+
+pub words-outputs : (y : Saved) (s o v : ℕ) (outputs : List Output) (w : ℕ) →
+    put (λ k. get_or (thread_words y s o v) k 0) 9 (length outputs) w ≡ get_or (thread_words (record y { outputs = outputs }) s o v) w 0
+unfolding thread_words
+words-outputs y s o v outputs w = put_set (thread_words y s o v) 9 (length outputs) w (omega (arith, words-length y s o v))
+
+-- and to the state
+pub words-state : (y : Saved) (s o v i n w : ℕ) → i < length y.state →
+    put (λ k. get_or (thread_words y s o v) k 0) (48 + i) n w ≡ get_or (thread_words (record y { state = set y.state i n }) s o v) w 0
+unfolding thread_words
+words-state y s o v i n w lt =
+    let at : 48 + i - 48 ≡ i = omega arith in
+    put_set (thread_words y s o v) (48 + i) n w (omega (arith, words-length y s o v))
+    ∙ ap (λ l. get_or l w 0) (set-append_right (header y s o v) y.state 48 (48 + i) n refl (omega arith) ∙ ap (λ k. header y s o v ++ set y.state k n) at)
+
+-- the reads
+pub words-of_outputs : (y : Saved) (s o v : ℕ) → get_or (thread_words y s o v) 9 0 ≡ length y.outputs
+unfolding thread_words
+words-of_outputs y s o v = refl
+
+pub words-of_total : (ending : Ending) (y : Saved) (s o v : ℕ) → get_or (thread_words y s o v) (total_word ending) 0 ≡ total_of ending y
+unfolding thread_words
+words-of_total (endings.Next task) y s o v = refl
+words-of_total endings.Done y s o v = refl
+words-of_total endings.Trapped y s o v = refl
+words-of_total endings.Expired y s o v = refl
+
+pub words-of_stamp : (y : Saved) (s o v : ℕ) → get_or (thread_words y s o v) 0 0 ≡ s
+unfolding thread_words
+words-of_stamp y s o v = refl
+
+pub words-of_state : (y : Saved) (s o v i : ℕ) → get_or (thread_words y s o v) (48 + i) 0 ≡ get_or y.state i 0
+unfolding thread_words
+words-of_state y s o v i = get_or-append-add (header y s o v) y.state i 0
