@@ -9,3 +9,6 @@ mod page_copy;
 pub use block::{Block, committed_at};
 pub use laws::two_copies;
 pub use machine::BufferMachine;
+
+#[cfg(test)]
+mod tests;

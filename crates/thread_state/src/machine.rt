@@ -1,6 +1,6 @@
 //! The writes of a task.
 
-ghost use Rattle.std.specs.Prelude.{◌≡◌, ℕ, ◌+◌, ◌*◌, ◌/◌, ◌%◌, ◌<◌, ◌↔◌, IsSome, IsNone};
+ghost use Rattle.std.specs.Prelude.{◌≡◌, ℕ, ◌+◌, ◌*◌, ◌/◌, ◌%◌, ◌<◌, ◌↔◌, IsTrue, IsSome, IsNone};
 ghost use Rattle.thread_state.specs.Blocks.{IsPlaced, IsCommitWord};
 ghost use Rattle.thread_state.specs.Pages.{working_mask};
 ghost use Rattle.thread_state.specs.Writes.{begun, IsAtRest, CanWrite, wanted, read_of, write_of, commit_of, taken, prepared, discarded};
@@ -102,6 +102,14 @@ impl BufferMachine {
                 loaded: None,
             });
         }
+    }
+
+    /// Whether the page of the word is dirty, so that the word may be written.
+    pub fn is_dirty(&self, word: u32) -> bool
+        requires { word < self.now.block.words }
+        ensures { IsTrue result ↔ CanWrite self.now word }
+    {
+        copy_of(self.dirty, word / 8) == 1
     }
 
     /// The access that reads a word: the last that was written, else the committed one.
