@@ -12,7 +12,8 @@ use Rattle.ink_base.specs.declared.line_error.LineError.TheVariants as errors
 use Rattle.ink_base.specs.Gives.{◌>>=◌, ◌>>◌, at_line, Fails, Answers}
 use Rattle.ink_base.specs.Checks.{words_of}
 use Rattle.ink_base.proofs.Failing.{Answers-step}
-use Rattle.power_trace.specs.Walks.{words_in, is_header, lines_in}
+use Rattle.power_trace.specs.Walks.{words_in, lines_in}
+use Rattle.task_asm.specs.Section.{is_header}
 
 step_fails : {A B : Type 0} (e : LineError) (r : Result A Cause) (f : A → Result B Cause) (total : Result B Cause) → Fails e r → (r >>= f) ≡ total → Fails e total
 step_fails errors.NoMemory r f total h so = tt

@@ -1,5 +1,5 @@
 -- Readings of one word after another, and of one line after another.
-use Rattle.std.specs.Prelude.{ℕ, ◌+◌, Bool, false, List, [], ◌∷◌, Result, Ok, Err, ◌==◌, nat_le, if◌then◌else◌}
+use Rattle.std.specs.Prelude.{ℕ, ◌+◌, List, [], ◌∷◌, Result, Ok, Err, nat_le, if◌then◌else◌}
 use Rattle.ink_base.specs.Lines.{Word, Line}
 use Rattle.ink_base.specs.declared.fault.Cause.{Cause}
 use Rattle.ink_base.specs.declared.fault.Cause.TheVariants.{OverLimit, Missing}
@@ -8,17 +8,12 @@ use Rattle.ink_base.specs.declared.fault.JobAnswer.{JobAnswer}
 use Rattle.ink_base.specs.declared.fault.JobAnswer.TheVariants.{Fault}
 use Rattle.ink_base.specs.Gives.{◌>>=◌, ◌>>◌, at_line}
 use Rattle.ink_base.specs.Checks.{number_of, end_in}
+use Rattle.task_asm.specs.Section.{is_header}
 
 -- a state after each word, up to the first fault
 unfoldable pub words_in : {S : Type 0} → (S → Word → Result S Cause) → S → List Word → Result S Cause
 words_in f s [] = Ok s
 words_in f s (w ∷ ws) = f s w >>= (λ next. words_in f next ws)
-
--- the header of a section begins with a bracket
-abbrev pub is_header : List Word → Bool
-is_header [] = false
-is_header ([] ∷ ws) = false
-is_header ((b ∷ w) ∷ ws) = b == 91
 
 -- a state after each line up to the next header, and the lines from there on
 unfoldable pub lines_in : {S : Type 0} → (S → List Word → Result S Cause) → S → List Line → Result (S × List Line) JobFault

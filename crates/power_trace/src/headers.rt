@@ -3,7 +3,8 @@
 ghost use Rattle.std.specs.Prelude.{◌≡◌, ◌<◌, ◌^◌};
 ghost use Rattle.ink_base.specs.Checks.{words_of};
 ghost use Rattle.ink_base.specs.Gives.{Gives, GivesJob, at_line};
-ghost use Rattle.power_trace.specs.Walks.{is_header, header_end, missing};
+ghost use Rattle.power_trace.specs.Walks.{header_end, missing};
+ghost use Rattle.task_asm.specs.Section.{is_header};
 ghost use Rattle.power_trace.specs.Sensors.{power_header};
 
 use ink_base::checks::{end, word};

@@ -5,8 +5,10 @@ mod charge;
 mod charges;
 mod headers;
 mod item;
+mod job;
 mod names;
 mod numbers;
+mod parse;
 mod power;
 mod readings;
 mod section;
@@ -14,3 +16,10 @@ mod sensors;
 
 pub use charge::Charge;
 pub use item::Item;
+pub use job::Job;
+pub use parse::{parse_job, parse_listed};
+pub use power::read_power;
+pub use sensors::read_sensors;
+
+#[cfg(test)]
+mod tests;

@@ -1,6 +1,7 @@
 //! The section of the power trace.
 
 ghost use Rattle.std.specs.Prelude.{◌≡◌, ◌<◌, ◌≤◌, ◌^◌, ℕ, length, drop};
+ghost use Rattle.ink_base.specs.Lines.{lines};
 ghost use Rattle.ink_base.specs.Gives.{GivesJob};
 ghost use Rattle.ink_base.specs.TokenLines.{token_lines};
 ghost use Rattle.ink_base.specs.Tokens.{AreTokens};
@@ -63,4 +64,26 @@ fn power(
     };
     let rest = read_lines(&mut charges, alloc, text, rest)?;
     power_end(charges, text, lines, rest)
+}
+
+/// Reads the section `[power]` of a text of at most 4,194,304 bytes, by its tokens, from the index of the section's header on:
+/// the charges. Refused with its line: a word behind the header, `UnknownWord`; a line that begins with another word than `charge`,
+/// `UnknownWord`; the 4,097th charge, `OverLimit`; no number of ticks, `Missing`; ticks or a count that is no number, `BadNumber`;
+/// ticks above 2,147,483,647, or a count or a sum of all counts above 4,194,304, `OverLimit`; an actor that isn't on the board,
+/// `UnknownWord`; a further header, `BadSection`; no charge: `Missing`.
+pub fn read_power(
+    alloc: Global,
+    text: &[u8],
+    tokens: &Tokens,
+    at: u32,
+    program: &Accepted,
+) -> Result<Items<Charge>, JobAnswer>
+    requires short { length text.now ≤ 4194304 }
+    requires tokens { AreTokens text.now tokens.now.list.items tokens.now.lines }
+    requires at { at ≤ length tokens.now.list.items }
+    ensures { GivesJob (λ list. list) result (power_in (length (lines text.now)) (length program.now.sources) (token_lines text.now (drop at tokens.now.list.items))) }
+{
+    let sources = program.program().sources.len();
+    let (_before, from) = tokens.list.as_slice().split_at(at as usize);
+    power(alloc, text, tokens.lines, sources as u8, from)
 }

@@ -2,6 +2,7 @@
 
 ghost use Rattle.std.specs.Prelude.{◌≡◌, ◌<◌, ◌≤◌, ◌^◌, ℕ, length, drop, IfOk};
 ghost use Rattle.ink_base.specs.Checks.{words_of};
+ghost use Rattle.ink_base.specs.Lines.{lines};
 ghost use Rattle.ink_base.specs.Gives.{GivesJob, at_line};
 ghost use Rattle.ink_base.specs.Suffix.{IsSuffix};
 ghost use Rattle.ink_base.specs.TokenLines.{token_lines};
@@ -67,4 +68,30 @@ fn sensors<'a>(
     let rest = read_lines(&mut readings, alloc, text, rest)?;
     let lists = sensors_end(readings, text, lines, rest)?;
     Ok((lists, rest))
+}
+
+/// Reads the section `[sensors]` of a text of at most 4,194,304 bytes, by its tokens, from the index of the section's header on:
+/// the readings of each source of the program, and the index of the header behind the section. Refused with its line:
+/// a word behind the header, `UnknownWord`; a line that begins with no source, `UnknownWord`; a value that is no number, `BadNumber`,
+/// or is above 4,294,967,295 or the 65,536th of its source, `OverLimit`; another header than `[power]`, `BadSection`; no header: `Missing`.
+pub fn read_sensors(
+    alloc: Global,
+    text: &[u8],
+    tokens: &Tokens,
+    at: u32,
+    program: &Accepted,
+) -> Result<(Items<Items<u32>>, u32), JobAnswer>
+    requires short { length text.now ≤ 4194304 }
+    requires tokens { AreTokens text.now tokens.now.list.items tokens.now.lines }
+    requires at { at ≤ length tokens.now.list.items }
+    ensures given { GivesJob (λ x. (x.0, token_lines text.now (drop x.1 tokens.now.list.items))) result (sensors_in (length (lines text.now)) (length program.now.sources) (token_lines text.now (drop at tokens.now.list.items))) }
+    ensures within { IfOk result (λ x. x.1 ≤ length tokens.now.list.items) }
+{
+    let sources = program.program().sources.len();
+    let all = tokens.list.as_slice();
+    let (_before, from) = all.split_at(at as usize);
+    match sensors(alloc, text, tokens.lines, sources, from) {
+        Ok((lists, rest)) => Ok((lists, (all.len() - rest.len()) as u32)),
+        Err(e) => Err(e),
+    }
 }

@@ -1,3 +1,3 @@
 pub mod Below
-pub mod Tests
+pub mod Passed
 pub mod Sound

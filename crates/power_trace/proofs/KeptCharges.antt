@@ -1,0 +1,153 @@
+-- The charges of a section are within the limits, and their actors are on the board.
+use Rattle.std.proofs.Common.{◌≡◌, ℕ, ◌+◌, ◌<◌, ◌≤◌, List, [], ◌∷◌, ◌++◌, length, take, Option, Some, None, Result, Ok, Err, refl, subst, inl, inr, arith, length-append}
+use Rattle.std.specs.Prelude.{if◌then◌else◌, nat_lt, nat_le, ◌&&◌, ◌==◌, codes}
+use Rattle.std.specs.List.{All}
+use Rattle.std.specs.Option.{option_map}
+use Rattle.std.specs.Str.{bytes_eq}
+use Rattle.std.proofs.lemmas.Bool.{cases_Bool, and_parts, leb-true, ltb-true}
+use Rattle.std.proofs.lemmas.Bool.Decides.{nat_tests}
+use Rattle.std.proofs.lemmas.List.Elements.{All-push}
+use Rattle.std.proofs.lemmas.List.Sums.{sum_by-append}
+use Rattle.ink_base.specs.Lines.{Word, Line}
+use Rattle.ink_base.specs.declared.actor.Actor.{Actor}
+use Rattle.ink_base.specs.declared.actor.Actor.TheVariants.{Kernel, Source, Clock}
+use Rattle.ink_base.specs.declared.fault.Cause.{Cause}
+use Rattle.ink_base.specs.declared.fault.Cause.TheVariants.{OverLimit}
+use Rattle.ink_base.specs.declared.fault.JobFault.{JobFault}
+use Rattle.ink_base.specs.Gives.{◌>>=◌, ◌>>◌, at_line}
+use Rattle.ink_base.specs.Checks.{number_of, word_in, fixed_in, number_in}
+use Rattle.power_trace.specs.declared.item.Item.{Item}
+use Rattle.power_trace.specs.declared.charge.Charge.{Charge}
+use Rattle.power_trace.specs.declared.charges.Charges.{Charges}
+use Rattle.power_trace.specs.declared.charges.Turns.{Turns}
+use Rattle.power_trace.specs.Walks.{words_in, lines_in, header_end}
+use Rattle.power_trace.specs.Sensors.{source_of}
+use Rattle.power_trace.specs.Power.{actor_of, known_actor, cut, count_at, item_of, item_in, room_in, charge_line, power_end, power_in}
+use Rattle.power_trace.specs.Job.{IsOnBoard, IsRightCharge, item_turns, charge_turns, AreCharges}
+use Rattle.power_trace.proofs.Inverted.{bound, bound_line, tested, tested_not, words_keep, lines_keep}
+use Rattle.power_trace.proofs.Kept.{source_below, known_is}
+
+mapped : (sources : ℕ) (o : Option ℕ) (actor : Actor) → ((i : ℕ) → o ≡ Some i → i < sources) → option_map (λ i. Source (record { 0 = i })) o ≡ Some actor → IsOnBoard sources actor
+mapped sources None actor below h = absurd (cc)
+mapped sources (Some i) actor below h = let same : Source (record { 0 = i }) ≡ actor = cc in subst (IsOnBoard sources) same (below i refl)
+
+on_board : (sources : ℕ) (w : Word) (actor : Actor) → actor_of sources w ≡ Some actor → IsOnBoard sources actor
+on_board sources w actor h =
+    elim (cases_Bool (bytes_eq w (codes "K"))) [
+      | inl kernel ↦ let k = rw kernel at h in let same : Kernel ≡ actor = cc in subst (IsOnBoard sources) same tt
+      | inr other ↦
+          let k = rw other at h in
+          elim (cases_Bool (bytes_eq w (codes "T"))) [
+            | inl clock ↦ let l = rw clock at k in let same : Clock ≡ actor = cc in subst (IsOnBoard sources) same tt
+            | inr source ↦ mapped sources (source_of sources w) actor (source_below sources w) (rw source at k)
+          ]
+    ]
+
+item_right : (sources : ℕ) (w : Word) (item : Item) → item_of sources w ≡ Ok item → IsOnBoard sources item.actor
+unfolding item_of
+item_right sources w item h =
+    let made : Actor → ℕ → Result Item Cause = λ actor count. Ok (record { actor = actor; count = count }) in
+    let counted : Actor → Result Item Cause = λ actor. count_at w (cut w) >>= made actor in
+    let named = bound (known_actor sources (take (cut w) w)) counted item h in
+    let count = bound (count_at w (cut w)) (made named.0) item named.2 in
+    let made_is : ◌≡◌ {A = Item} (record { actor = named.0; count = count.0 }) item = cc in
+    subst (λ (x : Item). IsOnBoard sources x.actor) made_is (on_board sources (take (cut w) w) named.0 (known_is _ named.0 named.1))
+
+-- the items of a charge, where so many turns stand before it
+record AreTurns (sources before : ℕ) (t : Turns) : Type 0 where
+  pub sum : before + item_turns t.items ≡ t.turns
+  pub actors : All (λ (item : Item). IsOnBoard sources item.actor) t.items
+  pub within : t.turns ≤ 4194304
+
+item_keeps : (sources before : ℕ) (t : Turns) (w : Word) (next : Turns) → AreTurns sources before t → item_in sources t w ≡ Ok next → AreTurns sources before next
+unfolding item_in
+item_keeps sources before t w next are h =
+    let more : Item → Turns = λ (item : Item). record { items = t.items ++ item ∷ []; turns = t.turns + item.count } in
+    let f : Item → Result Turns Cause = λ (item : Item). if nat_le (t.turns + item.count) 4194304 then Ok (more item) else Err OverLimit in
+    let read = bound (item_of sources w) f next h in
+    let ok = tested (nat_le (t.turns + read.0.count) 4194304) (more read.0) next OverLimit read.2 in
+    let kept : AreTurns sources before (more read.0) = record {
+      sum = omega (arith, are.sum, sum_by-append (λ (item : Item). item.count) t.items (read.0 ∷ []));
+      actors = All-push (λ (item : Item). IsOnBoard sources item.actor) t.items read.0 are.actors (item_right sources w read.0 read.1);
+      within = leb-true _ _ ok.0;
+    } in
+    subst (AreTurns sources before) ok.1 kept
+
+number_le : (greatest : ℕ) (ws : List Word) (x : ℕ × List Word) → number_in 0 greatest ws ≡ Ok x → x.0 ≤ greatest
+unfolding number_in
+number_le greatest ws x h =
+    let made : List Word → ℕ → Result (ℕ × List Word) Cause = λ rest n. if nat_le 0 n && nat_le n greatest then Ok (n, rest) else Err OverLimit in
+    let read : Word × List Word → Result (ℕ × List Word) Cause = λ w. number_of w.0 >>= made w.1 in
+    let first = bound (word_in ws) read x h in
+    let number = bound (number_of first.0.0) (made first.0.1) x first.2 in
+    let ok = tested (nat_le 0 number.0 && nat_le number.0 greatest) (number.0, first.0.1) x OverLimit number.2 in
+    subst (λ (y : ℕ × List Word). y.0 ≤ greatest) ok.1 (leb-true _ _ (and_parts _ _ ok.0).1)
+
+-- the charges so far
+record AreCharged (board : ℕ) (c : Charges) : Type 0 where
+  pub sources : c.sources ≡ board
+  pub count : length c.list ≤ 4096
+  pub right : All (IsRightCharge board) c.list
+  pub sum : charge_turns c.list ≡ c.turns
+  pub within : c.turns ≤ 4194304
+
+-- one more charge, and the turns of all
+abbrev with_charge : Charges → ℕ → Turns → Charges
+with_charge c off t = record c { list = c.list ++ record { off = off; items = t.items } ∷ []; turns = t.turns }
+
+charge_more : (sources off : ℕ) (c : Charges) (t : Turns) → AreCharged sources c → length c.list < 4096 → off ≤ 2147483647 → AreTurns sources c.turns t → AreCharged sources (with_charge c off t)
+charge_more sources off c t are room within turns =
+    let charge : Charge = record { off = off; items = t.items } in
+    record {
+      sources = are.sources;
+      count = omega (arith, length-append c.list (charge ∷ []));
+      right = All-push (IsRightCharge sources) c.list charge are.right (record { off = omega arith; actors = turns.actors });
+      sum = omega (arith, are.sum, turns.sum, sum_by-append (λ (x : Charge). item_turns x.items) c.list (charge ∷ []));
+      within = turns.within;
+    }
+
+charge_keeps : (sources : ℕ) (c : Charges) (ws : List Word) (next : Charges) → AreCharged sources c → charge_line c ws ≡ Ok next → AreCharged sources next
+unfolding charge_line
+charge_keeps sources c ws next are h =
+    let begun : Turns = record { items = []; turns = c.turns } in
+    let made : ℕ → Turns → Result Charges Cause = λ off t. Ok (with_charge c off t) in
+    let listed : ℕ × List Word → Result Charges Cause = λ off. words_in (item_in c.sources) begun off.1 >>= made off.0 in
+    let timed : List Word → Unit {0} → Result Charges Cause = λ rest room. number_in 0 2147483647 rest >>= listed in
+    let counted : List Word → Result Charges Cause = λ rest. room_in c >>= timed rest in
+    let first = bound (fixed_in (codes "charge") ws) counted next h in
+    let room = bound (room_in c) (timed first.0) next first.2 in
+    let off = bound (number_in 0 2147483647 first.0) listed next room.2 in
+    let turns = bound (words_in (item_in c.sources) begun off.0.1) (made off.0.0) next off.2 in
+    let roomy = tested (nat_lt (length c.list) 4096) tt room.0 OverLimit room.1 in
+    let none : AreTurns c.sources c.turns begun = record { sum = omega arith; actors = λ k d lt. absurd (omega arith); within = are.within } in
+    let kept = words_keep (AreTurns c.sources c.turns) (item_in c.sources) (item_keeps c.sources c.turns) off.0.1 begun turns.0 none turns.1 in
+    let board = subst (λ (n : ℕ). AreTurns n c.turns turns.0) are.sources kept in
+    let same : with_charge c off.0.0 turns.0 ≡ next = cc in
+    subst (AreCharged sources) same (charge_more sources off.0.0 c turns.0 are (ltb-true _ _ roomy.0) (number_le 2147483647 first.0 off.0 off.1) board)
+
+end_keeps : (count sources : ℕ) (c : Charges) (ls : List Line) (list : List Charge) → AreCharged sources c → power_end count c ls ≡ Ok list → AreCharges sources list
+unfolding power_end
+end_keeps count sources c [] list are h =
+    let some = tested_not (length c.list == 0) c.list list _ h in
+    let right : AreCharges sources c.list = record {
+      least = grind (arith, nat_tests, some.0);
+      count = are.count;
+      right = are.right;
+      turns = omega (arith, are.sum, are.within);
+    } in
+    subst (AreCharges sources) some.1 right
+end_keeps count sources c (line ∷ ls) list are h = absurd (cc)
+
+-- the section's charges are within the limits
+pub power_keep : (count sources : ℕ) (ls : List Line) (list : List Charge) → power_in count sources ls ≡ Ok list → AreCharges sources list
+unfolding power_in
+power_keep count sources [] list h = absurd (cc)
+power_keep count sources (header ∷ ls) list h =
+    let begun : Charges = record { sources = sources; list = []; turns = 0 } in
+    let close : Charges × List Line → Result (List Charge) JobFault = λ x. power_end count x.0 x.1 in
+    let all : Unit {0} → Result (List Charge) JobFault = λ e. lines_in charge_line begun ls >> close in
+    let a = bound_line (at_line header.number (header_end header.words)) all list h in
+    let b = bound_line (lines_in charge_line begun ls) close list a.2 in
+    let none : AreCharged sources begun = record { sources = refl; count = omega arith; right = λ k d lt. absurd (omega arith); sum = refl; within = omega arith } in
+    let kept = lines_keep (AreCharged sources) charge_line (charge_keeps sources) ls begun b.0.0 b.0.1 none b.1 in
+    end_keeps count sources b.0.0 b.0.1 list kept b.2

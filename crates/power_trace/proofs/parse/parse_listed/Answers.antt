@@ -1,0 +1,14 @@
+-- Each section keeps its limits, and the check the program's.
+use Rattle.power_trace.proofs.Kept.{sensors_keep}
+use Rattle.power_trace.proofs.KeptCharges.{power_keep}
+use Rattle.power_trace.proofs.parse.parse_listed.Goals as goal
+
+pub new-requires : goal.new-requires
+new-requires c =
+    let sensors = sensors_keep _ _ _ _ _ c.in_ok-readings.ensures.given in
+    record {
+      accepted = rw (← c.accepted.view_is) c.accepted.invariant;
+      sources = sensors.lists;
+      readings = sensors.each;
+      charges = power_keep _ _ _ _ c.in_ok-charges.ensures;
+    }
