@@ -15,7 +15,6 @@ use Rattle.task_isa.specs.declared.program.Program.{Program}
 use Rattle.task_isa.specs.Acts.{Cpu, act_of}
 use Rattle.task_isa.specs.Meaning.{RunEnd, advance, advance_with, instr_at, task_end}
 use Rattle.task_isa.specs.Code.{word_of_instr, decoded}
-use Rattle.task_isa.proofs.Codes.{decoded-word}
 use Rattle.prog_check.specs.Lookup.{thread_def}
 use Rattle.prog_check.specs.Accepted.{IsAccepted}
 use Rattle.ink_layout.specs.declared.pick.Pick.{Pick}
@@ -64,7 +63,7 @@ module _ (program : Program) (m : Model) (words : Memory) (pick : Pick) (stamp :
       let known : a.task < length program.tasks = accepted.served pick.thread.0 h.picked.known in
       let word : words (Code e.task.0 e.at) ≡ word_of_instr (instr_at a.code e.at) =
       ap (λ k. words (Code k e.at)) h.progress.task ∙ stands.code a.task e.at known h.progress.inside
-      in ap (λ w. decoded w) word ∙ decoded-word (instr_at a.code e.at) (code a.task e.at known h.progress.inside)
+      in ap (λ w. decoded w) word ∙ code a.task e.at known h.progress.inside
 
   -- an instruction begins
   begin_serving : (act : Act) → StandsPrivate words program m → HasShape program m → Serving program words m (machine_at pick stamp b ending e Fetch) →

@@ -11,5 +11,6 @@ pub mod Instrs
 pub mod Keeps
 pub mod Kept
 pub mod Outlasts
+pub mod Ranges
 pub mod Runs
 pub mod Words

@@ -1,9 +1,10 @@
 -- What a task's registers tell of the words and the state, and what each of its accesses keeps.
-use Rattle.std.specs.Prelude.{◌≡◌, ◌≢◌, ℕ, ◌+◌, ◌%◌, ◌<◌, false, length}
+use Rattle.std.specs.Prelude.{◌≡◌, ◌≢◌, ℕ, ◌+◌, ◌%◌, ◌^◌, ◌<◌, false, length, Some}
 use Rattle.fram_words.specs.Places.{Memory, Ack, perform, answer}
 use Rattle.thread_state.specs.Pages.{committed}
 use Rattle.task_isa.specs.declared.program.Program.{Program}
-use Rattle.task_isa.specs.Code.{IsInstr}
+use Rattle.task_isa.specs.declared.instr.Instr.{Instr}
+use Rattle.task_isa.specs.Code.{word_of_instr, decoded}
 use Rattle.prog_check.specs.Lookup.{task_def, instr_at}
 use Rattle.ink_layout.specs.declared.pick.Pick.{Pick}
 use Rattle.ink_layout.specs.Points.{entry_of_point}
@@ -18,6 +19,7 @@ use Rattle.task_run.specs.declared.phase.Phase.{Phase}
 use Rattle.task_run.specs.declared.phase.Phase.TheVariants.{StoreCommit, StoreAck, StoreEmpty, Over}
 use Rattle.task_run.specs.declared.machine.TaskMachine.{TaskMachine}
 use Rattle.task_run.specs.Machine.{want, take, point, begin, is_over}
+use Rattle.task_run.specs.Fits.{FitsTask}
 use Rattle.task_run.specs.Serving.{Serving}
 
 -- from the commit to the release: an event of source i with this count is finished, and no other thread has a finished one
@@ -47,9 +49,12 @@ abbrev pub KeepsCopies : Phase → Memory → Memory → Type 0
 KeepsCopies StoreCommit old new = Unit {0}
 KeepsCopies _ old new = SameCommitted old new
 
--- the operands of each instruction fit its word
+-- an instruction is what its word is read as
+abbrev pub IsReadBack : Instr → Type 0
+IsReadBack instr = decoded (word_of_instr instr) ≡ Some instr
+
 abbrev pub HasCode : Program → Type 0
-HasCode program = (x n : ℕ) → x < length program.tasks → n < length (task_def program x).code → IsInstr (instr_at (task_def program x) n)
+HasCode program = (x n : ℕ) → x < length program.tasks → n < length (task_def program x).code → IsReadBack (instr_at (task_def program x) n)
 
 -- One access: its entry is legal, the access allowed, the words stand for the state after it, and the registers after it tell of both.
 pub record KeepsAll (program : Program) (readings : Readings) (words : Memory) (m : Model) (r : TaskMachine) : Type 0 where
@@ -75,3 +80,14 @@ abbrev pub EveryPickBegins : Type 0
 EveryPickBegins =
     (program : Program) (readings : Readings) (words : Memory) (m : Model) (pick : Pick) (stamp : ℕ) →
     Background program readings words m → IsPicked program words m pick → stamp ≡ m.commits → Knows program words m (begin pick stamp)
+
+-- the next access can be made, and the word that it finds taken
+pub record CanGoOn (program : Program) (words : Memory) (r : TaskMachine) : Type 0 where
+  pub wants : FitsTask program r 0
+  pub takes : FitsTask program r (answer words (want program r))
+
+-- as long as stamps fit their words, the registers are in the ranges that the machine asks for
+abbrev pub EveryTaskFits : Type 0
+EveryTaskFits =
+    (program : Program) (readings : Readings) (words : Memory) (m : Model) (r : TaskMachine) →
+    Background program readings words m → m.commits + 1 < 2 ^ 32 → Knows program words m r → is_over r.phase ≡ false → CanGoOn program words r

@@ -1,13 +1,15 @@
 //! What a task leaves on a board.
 
-ghost use Rattle.task_run.specs.Knows.{EveryTaskCommits, EveryTaskOutlasts, EveryPickBegins};
+ghost use Rattle.task_run.specs.Knows.{EveryTaskCommits, EveryTaskOutlasts, EveryTaskFits, EveryPickBegins};
 
 /// The law of the machine that serves a pick, for every plain program, on words that stand for a state of the never-cut kernel.
 /// Until the commit each access leaves the committed copy of every thread, and the state; the store of the commit word is a legal
 /// commit, and leaves words that stand for what the commit makes of the state; the store of the empty slot is a legal release.
-/// What the registers know outlasts any accesses of sources and clock in between.
+/// What the registers know outlasts any accesses of sources and clock in between. The registers are in the ranges that `want` and
+/// `take` ask for.
 pub fn tasks_commit()
     ensures begins { EveryPickBegins }
     ensures commits { EveryTaskCommits }
     ensures outlasts { EveryTaskOutlasts }
+    ensures fits { EveryTaskFits }
 {}

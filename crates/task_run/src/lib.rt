@@ -2,6 +2,7 @@
 #![tactic(auto)]
 
 mod buffer;
+mod code;
 mod copying;
 mod ending;
 mod execution;
@@ -14,6 +15,7 @@ mod steps;
 mod want;
 
 pub use buffer::Buffer;
+pub use code::read_code_back;
 pub use ending::Ending;
 pub use execution::Execution;
 pub use laws::tasks_commit;
