@@ -7,6 +7,7 @@ mod order;
 mod origin;
 mod scan_at;
 mod scanned;
+mod steps;
 
 pub use laws::scan_picks;
 pub use machine::ScanMachine;

@@ -9,7 +9,9 @@ use task_isa::Program;
 /// The thread of the greatest priority below the bound; none exactly where no thread has a priority below it.
 pub fn next_below(program: &Program, bound: u32) -> Option<ThreadId>
     requires { length program.now.threads ≤ 256 }
-    ensures { result ≡ order.next_below program.now bound }
+    ensures computed { result ≡ order.next_below program.now bound }
+    ensures highest { order.IsHighest program.now bound (length program.now.threads) result }
+    ensures known { ForSome result (λ t. t.0 < length program.now.threads) }
 {
     let mut best = None;
     for n in 0..program.threads.len() {

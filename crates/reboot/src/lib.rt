@@ -6,7 +6,7 @@ mod boot_at;
 mod laws;
 mod machine;
 
-pub use address::{header_at, slot_at};
+pub use address::{commit_at, header_at, slot_at};
 pub use boot_at::BootAt;
 pub use laws::boot_releases;
 pub use machine::BootMachine;

@@ -1,17 +1,15 @@
 //! The boot of the kernel as a machine.
 ghost use Rattle.std.specs.Prelude.{◌≡◌, ◌<◌, ◌^◌, length};
-ghost use Rattle.prog_check.specs.Accepted.{IsAccepted};
 ghost use Rattle.push_core.specs.Slots.{slot_in};
-ghost use Rattle.ink_layout.specs.Addresses.{FitsLayout, at_layout};
+ghost use Rattle.ink_layout.specs.Addresses.{at_layout};
 ghost use Rattle.reboot.specs.Boot.{boot_begun, boot_wants, boot_takes, boot_next, after_slot, boot_point, boot_stamp, boot_slot, IsBoot, IsBootWord, IsOfSource};
 
-use crate::address::{header_at, slot_at};
+use crate::address::{ack_at, commit_at, header_at, places_of, slot_at};
 use crate::boot_at::BootAt;
-use fram_words::{Access, Layout};
+use fram_words::Access;
 use ink_base::ThreadId;
 use ink_layout::{KernelPoint, Plan, SlotAt};
 use push_core::{Slot, empty, read_slot};
-use task_isa::Program;
 
 /// The kernel at the start of a charge: the thread at hand, the greatest stamp that it has loaded, and the row of the access table.
 #[derive(Clone, Copy, Debug, PartialEq, Eq)]
@@ -49,7 +47,26 @@ impl BootMachine {
         requires { IsBoot plan.now.accepted self.now }
         ensures { result ≡ at_layout plan.now.layout (boot_wants plan.now.accepted self.now.thread.0 self.now.at) }
     {
-        self.access(plan.program(), &plan.layout)
+        let thread = self.thread;
+        match self.at {
+            BootAt::Commit | BootAt::Over => Access::Load(commit_at(plan, thread)),
+            BootAt::Stamp { commit_word } => Access::Load(header_at(plan, thread, commit_word, 0)),
+            BootAt::Finished { commit_word } => Access::Load(header_at(
+                plan,
+                thread,
+                commit_word,
+                5,
+            )),
+            BootAt::Slot { position } => Access::Load(slot_at(plan, thread, position)),
+            BootAt::Ack { source, count, .. } => Access::Store(
+                ack_at(plan, source),
+                (count as u64 + 1) % 64,
+            ),
+            BootAt::Empty { position } => Access::Store(
+                slot_at(plan, thread, position),
+                empty(position + places_of(plan, thread)),
+            ),
+        }
     }
 
     /// Takes the word that the wanted access found, goes on to the row that follows, and answers what the access stands for. A boot that
@@ -62,7 +79,7 @@ impl BootMachine {
         ensures point { result ≡ boot_point self.old.thread self.old.at }
     {
         let point = self.point();
-        *self = self.following(plan.program(), word);
+        *self = self.following(plan, word);
         point
     }
 
@@ -73,48 +90,13 @@ impl BootMachine {
         ensures { result ≡ boot_slot self.now.thread self.now.at }
     {
         let _plan = plan;
-        self.slot()
-    }
-
-    /// The access of the row.
-    fn access(self, program: &Program, layout: &Layout) -> Access
-        requires accepted { IsAccepted program.now }
-        requires layout { FitsLayout program.now layout.now }
-        requires row { IsBoot program.now self }
-        ensures { result ≡ at_layout layout.now (boot_wants program.now self.thread.0 self.at) }
-    {
         match self.at {
-            BootAt::Commit | BootAt::Over => Access::Load(
-                layout.threads.as_slice()[self.thread.0 as usize].commit,
-            ),
-            BootAt::Stamp { commit_word } => Access::Load(header_at(
-                program,
-                layout,
-                self.thread,
-                commit_word,
-                0,
-            )),
-            BootAt::Finished { commit_word } => Access::Load(header_at(
-                program,
-                layout,
-                self.thread,
-                commit_word,
-                5,
-            )),
-            BootAt::Slot { position } => Access::Load(slot_at(
-                program,
-                layout,
-                self.thread,
-                position,
-            )),
-            BootAt::Ack { source, count, .. } => Access::Store(
-                layout.acks + source.0 as u32,
-                (count as u64 + 1) % 64,
-            ),
-            BootAt::Empty { position } => Access::Store(
-                slot_at(program, layout, self.thread, position),
-                empty(position + program.threads.as_slice()[self.thread.0 as usize].queue as u32),
-            ),
+            BootAt::Slot { position } | BootAt::Ack { position, .. } | BootAt::Empty { position } =>
+                Some(SlotAt {
+                    thread: self.thread,
+                    position,
+                }),
+            _ => None,
         }
     }
 
@@ -128,27 +110,12 @@ impl BootMachine {
         }
     }
 
-    /// The event that the access looks for, acknowledges or releases.
-    fn slot(self) -> Option<SlotAt>
-        ensures { result ≡ boot_slot self.thread self.at }
-    {
-        match self.at {
-            BootAt::Slot { position } | BootAt::Ack { position, .. } | BootAt::Empty { position } =>
-                Some(SlotAt {
-                    thread: self.thread,
-                    position,
-                }),
-            _ => None,
-        }
-    }
-
     /// The registers after the access, which found this word.
-    fn following(self, program: &Program, word: u64) -> BootMachine
-        requires accepted { IsAccepted program.now }
-        requires row { IsBoot program.now self }
-        requires range { IsBootWord program.now self.at word }
-        ensures taken { result ≡ boot_takes program.now self.thread self.stamp self.at word }
-        ensures row { IsBoot program.now result }
+    fn following(self, plan: &Plan, word: u64) -> BootMachine
+        requires row { IsBoot plan.now.accepted self }
+        requires range { IsBootWord plan.now.accepted self.at word }
+        ensures taken { result ≡ boot_takes plan.now.accepted self.thread self.stamp self.at word }
+        ensures row { IsBoot plan.now.accepted result }
     {
         match self.at {
             BootAt::Commit => self.with(BootAt::Stamp { commit_word: word }),
@@ -157,13 +124,13 @@ impl BootMachine {
                 at: BootAt::Finished { commit_word },
                 ..self
             },
-            BootAt::Finished { .. } if word == 0 => self.next(program),
+            BootAt::Finished { .. } if word == 0 => self.next(plan),
             BootAt::Finished { .. } => self.with(BootAt::Slot {
                 position: (word - 1) as u32,
             }),
-            BootAt::Slot { position } => self.after_slot(program, position, word),
+            BootAt::Slot { position } => self.after_slot(plan, position, word),
             BootAt::Ack { position, .. } => self.with(BootAt::Empty { position }),
-            BootAt::Empty { .. } => self.next(program),
+            BootAt::Empty { .. } => self.next(plan),
             BootAt::Over => self,
         }
     }
@@ -176,13 +143,12 @@ impl BootMachine {
     }
 
     /// The first row of the next thread, or the end.
-    fn next(self, program: &Program) -> BootMachine
-        requires accepted { IsAccepted program.now }
-        requires known { self.thread.0 < length program.now.threads }
-        ensures next { result ≡ boot_next program.now self.thread self.stamp }
-        ensures row { IsBoot program.now result }
+    fn next(self, plan: &Plan) -> BootMachine
+        requires known { self.thread.0 < length plan.now.accepted.threads }
+        ensures next { result ≡ boot_next plan.now.accepted self.thread self.stamp }
+        ensures row { IsBoot plan.now.accepted result }
     {
-        if self.thread.0 as usize + 1 < program.threads.len() {
+        if self.thread.0 as usize + 1 < plan.program().threads.len() {
             BootMachine {
                 thread: ThreadId(self.thread.0 + 1),
                 at: BootAt::Commit,
@@ -194,13 +160,12 @@ impl BootMachine {
     }
 
     /// After the load of a slot: an event of the position is acknowledged.
-    fn after_slot(self, program: &Program, position: u32, word: u64) -> BootMachine
-        requires accepted { IsAccepted program.now }
-        requires known { self.thread.0 < length program.now.threads }
+    fn after_slot(self, plan: &Plan, position: u32, word: u64) -> BootMachine
+        requires known { self.thread.0 < length plan.now.accepted.threads }
         requires position { position < 2 ^ 20 }
-        requires range { IsOfSource program.now (slot_in word) }
-        ensures taken { result ≡ after_slot program.now self.thread self.stamp position (slot_in word) }
-        ensures row { IsBoot program.now result }
+        requires range { IsOfSource plan.now.accepted (slot_in word) }
+        ensures taken { result ≡ after_slot plan.now.accepted self.thread self.stamp position (slot_in word) }
+        ensures row { IsBoot plan.now.accepted result }
     {
         match read_slot(word) {
             Some(
@@ -215,7 +180,7 @@ impl BootMachine {
                 source,
                 count,
             }),
-            _ => self.next(program),
+            _ => self.next(plan),
         }
     }
 }
