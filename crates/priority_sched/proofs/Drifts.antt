@@ -28,9 +28,9 @@ row_drifts program words new m next t time Commit same f h = reached_drifts prog
 row_drifts program words new m next t time (Running c) same f h = (reached_drifts program m next _ time f h.0, h.1 ∙ sym (same (places.Commit t) tt))
 row_drifts program words new m next t time (Finished c running) same f h =
     (reached_drifts program m next _ time f h.0, h.1 ∙ sym (same (places.Commit t) tt), h.2)
-row_drifts program words new m next t time (Origin c task p) same f h = h
-row_drifts program words new m next t time (Value c task p o) same f h = h
-row_drifts program words new m next t time (First c task p e) same f h = h
+row_drifts program words new m next t time (Origin chain) same f h = h
+row_drifts program words new m next t time (Value chain o) same f h = h
+row_drifts program words new m next t time (First chain e) same f h = h
 row_drifts program words new m next t time (Slot c p) same f h =
     (reached_drifts program m next _ time f h.0, h.1 ∙ sym (same (places.Commit t) tt), h.2 ∙ sym (follow_released m next t f))
 row_drifts program words new m next t time (Picked pick) same f h = picked_follows program words new m next pick same f h

@@ -39,9 +39,9 @@ scan_ends program words m scan found h is = by_row scan.at h is
     by_row Commit h is = absurd cc
     by_row (Running c) h is = absurd cc
     by_row (Finished c running) h is = absurd cc
-    by_row (Origin c task p) h is = absurd cc
-    by_row (Value c task p o) h is = absurd cc
-    by_row (First c task p e) h is = absurd cc
+    by_row (Origin chain) h is = absurd cc
+    by_row (Value chain o) h is = absurd cc
+    by_row (First chain e) h is = absurd cc
     by_row (Slot c p) h is = absurd cc
 
 word_in_range : (program : Program) (readings : Readings) (words : Memory) (m : Model) (t time : ℕ) (at : ScanAt) → Background program readings words m →
@@ -51,11 +51,11 @@ word_in_range program readings words m t time (Running c) b known calm idle h =
 word_in_range program readings words m t time (Finished c running) b known calm idle h =
     let small : published (thread_of m t) < 2 ^ 20 = b.shared.small t known in
     let at : words (place_in t c 5) ≡ (thread_of m t).released = calm_word program readings words m t c b known calm h.1 in omega arith
-word_in_range program readings words m t time (Value c task p o) b known calm idle h = absurd h
+word_in_range program readings words m t time (Value chain o) b known calm idle h = absurd h
 word_in_range program readings words m t time Clock b known calm idle h = tt
 word_in_range program readings words m t time Commit b known calm idle h = tt
-word_in_range program readings words m t time (Origin c task p) b known calm idle h = tt
-word_in_range program readings words m t time (First c task p e) b known calm idle h = tt
+word_in_range program readings words m t time (Origin chain) b known calm idle h = tt
+word_in_range program readings words m t time (First chain e) b known calm idle h = tt
 word_in_range program readings words m t time (Slot c p) b known calm idle h = tt
 word_in_range program readings words m t time (Picked pick) b known calm idle h = tt
 word_in_range program readings words m t time Quiet b known calm idle h = tt

@@ -289,9 +289,9 @@ scan_keeps program readings words m scan b h = by_row scan.at h
     by_row Commit h = commit_step program readings words m scan.thread scan.time b h
     by_row (Running c) h = running_step program readings words m scan.thread scan.time c b h
     by_row (Finished c running) h = finished_step program readings words m scan.thread scan.time c running b h
-    by_row (Origin c task p) h = absurd h.knows
-    by_row (Value c task p o) h = absurd h.knows
-    by_row (First c task p e) h = absurd h.knows
+    by_row (Origin chain) h = absurd h.knows
+    by_row (Value chain o) h = absurd h.knows
+    by_row (First chain e) h = absurd h.knows
     by_row (Slot c p) h = slot_step program readings words m scan.thread scan.time c p b h
     by_row (Picked pick) h = record { kept = load_kept program readings words m places.Clock b; holds = h }
     by_row Quiet h = record { kept = load_kept program readings words m places.Clock b; holds = h }

@@ -18,6 +18,7 @@ use Rattle.ink_layout.specs.declared.kernel_point.KernelPoint.TheVariants as poi
 use Rattle.ink_layout.specs.declared.pick.Pick.{Pick}
 use Rattle.ink_layout.specs.declared.slot_at.SlotAt.{SlotAt}
 use Rattle.reboot.specs.Boot.{slot_place}
+use Rattle.priority_sched.specs.declared.chain.Chain.{Chain}
 use Rattle.priority_sched.specs.declared.scan_at.ScanAt.{ScanAt}
 use Rattle.priority_sched.specs.declared.scan_at.ScanAt.TheVariants.{Clock, Commit, Running, Finished, Origin, Value, First, Slot, Picked, Quiet}
 use Rattle.priority_sched.specs.declared.scanned.Scanned.{Scanned}
@@ -38,9 +39,9 @@ scan_wants program t Clock = Load places.Clock
 scan_wants program t Commit = Load (places.Commit t)
 scan_wants program t (Running c) = Load (place_in t c 1)
 scan_wants program t (Finished c running) = Load (place_in t c 5)
-scan_wants program t (Origin c task p) = Load (place_in t c 3)
-scan_wants program t (Value c task p o) = Load (place_in t c 4)
-scan_wants program t (First c task p e) = Load (place_in t c 2)
+scan_wants program t (Origin chain) = Load (place_in t chain.commit_word 3)
+scan_wants program t (Value chain o) = Load (place_in t chain.commit_word 4)
+scan_wants program t (First chain e) = Load (place_in t chain.commit_word 2)
 scan_wants program t (Slot c p) = Load (slot_place program t p)
 scan_wants program t (Picked pick) = Load places.Clock
 scan_wants program t Quiet = Load places.Clock
@@ -63,9 +64,19 @@ event_at p (Some (slots.Empty q)) = None
 event_at p None = None
 
 -- the pick of a running chain
-abbrev pub chain_pick : ThreadId → (time c : ℕ) → TaskId → (p first : ℕ) → Event → Pick
-chain_pick thread time c task p first e =
-    record { thread = thread; event = e; running = Some task; position = p; time = time; commit_word = c; first = first; due_word = 0; taken = 0 }
+abbrev pub chain_pick : ThreadId → (time : ℕ) → Chain → (first : ℕ) → Event → Pick
+chain_pick thread time chain first e =
+    record {
+      thread = thread;
+      event = e;
+      running = Some chain.running;
+      position = chain.position;
+      time = time;
+      commit_word = chain.commit_word;
+      first = first;
+      due_word = 0;
+      taken = 0;
+    }
 
 -- the pick of a queue's event
 abbrev pub queue_pick : ThreadId → (time c p : ℕ) → Event → Pick
@@ -84,12 +95,12 @@ scan_passed program thread time = scan_next thread time (next_below program (pri
 -- after the number of finished events
 abbrev pub after_finished : ThreadId → (time c p : ℕ) → Option TaskId → ScanMachine
 after_finished thread time c p None = scan_at thread time (Slot c p)
-after_finished thread time c p (Some task) = scan_at thread time (Origin c task p)
+after_finished thread time c p (Some task) = scan_at thread time (Origin (record { commit_word = c; running = task; position = p }))
 
 -- after the value of a running chain's event
-abbrev pub after_value : ThreadId → (time c : ℕ) → TaskId → (p : ℕ) → Event → (expires : Option ℕ) → ScanMachine
-after_value thread time c task p e None = scan_at thread time (Picked (chain_pick thread time c task p 0 e))
-after_value thread time c task p e (Some ticks) = scan_at thread time (First c task p e)
+abbrev pub after_value : ThreadId → (time : ℕ) → Chain → Event → (expires : Option ℕ) → ScanMachine
+after_value thread time chain e None = scan_at thread time (Picked (chain_pick thread time chain 0 e))
+after_value thread time chain e (Some ticks) = scan_at thread time (First chain e)
 
 -- after the look at a slot
 abbrev pub after_look : Program → ThreadId → (time c p : ℕ) → Option Event → ScanMachine
@@ -102,10 +113,9 @@ scan_takes program thread time Clock word = scan_next thread word (next_below pr
 scan_takes program thread time Commit word = scan_at thread time (Running word)
 scan_takes program thread time (Running c) word = scan_at thread time (Finished c (running_of word))
 scan_takes program thread time (Finished c running) word = after_finished thread time c word running
-scan_takes program thread time (Origin c task p) word = scan_at thread time (Value c task p (origin_of word))
-scan_takes program thread time (Value c task p o) word =
-    after_value thread time c task p (record { origin = o; value = word }) (thread_def program thread.0).expires
-scan_takes program thread time (First c task p e) word = scan_at thread time (Picked (chain_pick thread time c task p word e))
+scan_takes program thread time (Origin chain) word = scan_at thread time (Value chain (origin_of word))
+scan_takes program thread time (Value chain o) word = after_value thread time chain (record { origin = o; value = word }) (thread_def program thread.0).expires
+scan_takes program thread time (First chain e) word = scan_at thread time (Picked (chain_pick thread time chain word e))
 scan_takes program thread time (Slot c p) word = after_look program thread time c p (event_at p (slot_in word))
 scan_takes program thread time (Picked pick) word = scan_at thread time (Picked pick)
 scan_takes program thread time Quiet word = scan_at thread time Quiet
@@ -136,7 +146,7 @@ scan_slot thread at = None
 abbrev pub IsScanWord : Program → ScanAt → (word : ℕ) → Type 0
 IsScanWord program (Running c) word = word ≤ length program.tasks
 IsScanWord program (Finished c running) word = word < 2 ^ 20
-IsScanWord program (Value c task p o) word = word < 2 ^ 32
+IsScanWord program (Value chain o) word = word < 2 ^ 32
 IsScanWord program at word = Unit {0}
 
 -- the thread at hand is one of the program

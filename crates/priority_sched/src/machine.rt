@@ -54,9 +54,9 @@ impl ScanMachine {
             ScanAt::Commit => commit_at(plan, thread),
             ScanAt::Running { commit_word } => header_at(plan, thread, commit_word, 1),
             ScanAt::Finished { commit_word, .. } => header_at(plan, thread, commit_word, 5),
-            ScanAt::Origin { commit_word, .. } => header_at(plan, thread, commit_word, 3),
-            ScanAt::Value { commit_word, .. } => header_at(plan, thread, commit_word, 4),
-            ScanAt::First { commit_word, .. } => header_at(plan, thread, commit_word, 2),
+            ScanAt::Origin { chain } => header_at(plan, thread, chain.commit_word, 3),
+            ScanAt::Value { chain, .. } => header_at(plan, thread, chain.commit_word, 4),
+            ScanAt::First { chain, .. } => header_at(plan, thread, chain.commit_word, 2),
             ScanAt::Slot { position, .. } => slot_at(plan, thread, position),
             ScanAt::Clock | ScanAt::Picked { .. } | ScanAt::Quiet => plan.layout.clock,
         })

@@ -1,5 +1,6 @@
 //! The rows of the access table of a scan.
 
+use crate::chain::Chain;
 use ink_base::{Event, Origin, TaskId};
 use ink_layout::Pick;
 
@@ -21,22 +22,16 @@ pub enum ScanAt {
     },
     /// Loads the origin of the running chain's event.
     Origin {
-        commit_word: u64,
-        running: TaskId,
-        position: u32,
+        chain: Chain,
     },
     /// Loads the value of that event.
     Value {
-        commit_word: u64,
-        running: TaskId,
-        position: u32,
+        chain: Chain,
         origin: Origin,
     },
     /// Loads the time of the chain's first commit, where the thread expires.
     First {
-        commit_word: u64,
-        running: TaskId,
-        position: u32,
+        chain: Chain,
         event: Event,
     },
     /// Loads the slot of the next event of an idle thread's queue, which has this position.

@@ -6,11 +6,12 @@ ghost use Rattle.priority_sched.specs.Scan.{scan_takes, scan_next, after_finishe
 ghost use Rattle.priority_sched.specs.Scan as scan;
 ghost use Rattle.priority_sched.specs.declared.scan_at.ScanAt.TheVariants.{Running, Finished, Picked};
 
+use crate::chain::Chain;
 use crate::machine::ScanMachine;
 use crate::order::{next_below, priority_of};
 use crate::origin::{event_at, origin_of, running_of};
 use crate::scan_at::ScanAt;
-use ink_base::{Event, TaskId, ThreadId};
+use ink_base::{Event, Origin, TaskId, ThreadId};
 use ink_layout::{Pick, Plan};
 
 impl ScanMachine {
@@ -32,34 +33,12 @@ impl ScanMachine {
                 commit_word,
                 running,
             } => self.after_finished(commit_word, running, word as u32),
-            ScanAt::Origin {
-                commit_word,
-                running,
-                position,
-            } => self.with(ScanAt::Value {
-                commit_word,
-                running,
-                position,
+            ScanAt::Origin { chain } => self.with(ScanAt::Value {
+                chain,
                 origin: origin_of(word),
             }),
-            ScanAt::Value {
-                commit_word,
-                running,
-                position,
-                origin,
-            } => {
-                let event = Event {
-                    origin,
-                    value: word as u32,
-                };
-                self.after_value(plan, commit_word, running, position, event)
-            }
-            ScanAt::First {
-                commit_word,
-                running,
-                position,
-                event,
-            } => self.chain(commit_word, running, position, word, event),
+            ScanAt::Value { chain, origin } => self.after_value(plan, chain, origin, word as u32),
+            ScanAt::First { chain, event } => self.chained(chain, word, event),
             ScanAt::Slot {
                 commit_word,
                 position,
@@ -109,60 +88,45 @@ impl ScanMachine {
     fn after_finished(self, commit_word: u64, running: Option<TaskId>, position: u32) -> ScanMachine
         ensures { result ≡ after_finished self.thread self.time commit_word position running }
     {
-        match running {
-            None => self.with(ScanAt::Slot {
+        self.with(match running {
+            None => ScanAt::Slot {
                 commit_word,
                 position,
-            }),
-            Some(running) => self.with(ScanAt::Origin {
-                commit_word,
-                running,
-                position,
-            }),
-        }
+            },
+            Some(running) => {
+                let chain = Chain {
+                    commit_word,
+                    running,
+                    position,
+                };
+                ScanAt::Origin { chain }
+            }
+        })
     }
 
     /// After the value of a running chain's event.
-    fn after_value(
-        self,
-        plan: &Plan,
-        commit_word: u64,
-        running: TaskId,
-        position: u32,
-        event: Event,
-    ) -> ScanMachine
+    fn after_value(self, plan: &Plan, chain: Chain, origin: Origin, value: u32) -> ScanMachine
         requires { IsScan plan.now.accepted self }
-        ensures { result ≡ after_value self.thread self.time commit_word running position event (thread_def plan.now.accepted self.thread.0).expires }
+        ensures { result ≡ after_value self.thread self.time chain (record { origin = origin; value = value }) (thread_def plan.now.accepted self.thread.0).expires }
     {
+        let event = Event { origin, value };
         match plan.program().threads.as_slice()[self.thread.0 as usize].expires {
-            None => self.chain(commit_word, running, position, 0, event),
-            Some(_) => self.with(ScanAt::First {
-                commit_word,
-                running,
-                position,
-                event,
-            }),
+            None => self.chained(chain, 0, event),
+            Some(_) => self.with(ScanAt::First { chain, event }),
         }
     }
 
     /// A running chain is picked.
-    fn chain(
-        self,
-        commit_word: u64,
-        running: TaskId,
-        position: u32,
-        first: u64,
-        event: Event,
-    ) -> ScanMachine
-        ensures { result ≡ record self { at = Picked (chain_pick self.thread self.time commit_word running position first event) } }
+    fn chained(self, chain: Chain, first: u64, event: Event) -> ScanMachine
+        ensures { result ≡ record self { at = Picked (chain_pick self.thread self.time chain first event) } }
     {
         let pick = Pick {
             thread: self.thread,
             event,
-            running: Some(running),
-            position,
+            running: Some(chain.running),
+            position: chain.position,
             time: self.time,
-            commit_word,
+            commit_word: chain.commit_word,
             first,
             due_word: 0,
             taken: 0,
