@@ -59,11 +59,13 @@ pub record AreSensors (sources : ℕ) (readings : List (List ℕ)) : Type 0 wher
   pub lists : length readings ≡ sources
   pub each : All AreReadings readings
 
-set_keeps : (sources : ℕ) (readings : List (List ℕ)) (i : ℕ) (values : List ℕ) → AreSensors sources readings → AreReadings values → AreSensors sources (set readings i values)
-set_keeps sources readings i values are right = record {
-  lists = length-set readings i values ∙ are.lists;
-  each = All-set AreReadings readings i values right are.each;
-}
+set_keeps : (sources : ℕ) (readings : List (List ℕ)) (i : ℕ) (values : List ℕ) (next : List (List ℕ)) → AreSensors sources readings → AreReadings values → set readings i values ≡ next → AreSensors sources next
+set_keeps sources readings i values next are right same =
+    let kept : AreSensors sources (set readings i values) = record {
+      lists = length-set readings i values ∙ are.lists;
+      each = All-set AreReadings readings i values right are.each;
+    } in
+    subst (AreSensors sources) same kept
 
 line_keeps : (sources : ℕ) (readings : List (List ℕ)) (ws : List Word) (next : List (List ℕ)) → AreSensors sources readings → sensor_line readings ws ≡ Ok next → AreSensors sources next
 unfolding sensor_line
@@ -77,7 +79,7 @@ line_keeps sources readings ws next are h =
     let lt = source_below (length readings) first.0.0 source.0 (known_is _ source.0 source.1) in
     let kept = words_keep AreReadings value_in value_keeps first.0.1 (get_or readings source.0 []) read.0 (are.each source.0 [] lt) read.1 in
     let same : set readings source.0 read.0 ≡ next = cc in
-    subst (AreSensors sources) same (set_keeps sources readings source.0 read.0 are kept)
+    set_keeps sources readings source.0 read.0 next are kept same
 
 end_keeps : (count : ℕ) (readings : List (List ℕ)) (ls : List Line) (next : List (List ℕ)) (rest : List Line) → sensors_end count readings ls ≡ Ok (next, rest) → readings ≡ next
 unfolding sensors_end

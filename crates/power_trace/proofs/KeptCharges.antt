@@ -95,16 +95,18 @@ record AreCharged (board : ℕ) (c : Charges) : Type 0 where
 abbrev with_charge : Charges → ℕ → Turns → Charges
 with_charge c off t = record c { list = c.list ++ record { off = off; items = t.items } ∷ []; turns = t.turns }
 
-charge_more : (sources off : ℕ) (c : Charges) (t : Turns) → AreCharged sources c → length c.list < 4096 → off ≤ 2147483647 → AreTurns sources c.turns t → AreCharged sources (with_charge c off t)
-charge_more sources off c t are room within turns =
+charge_more : (sources off : ℕ) (c : Charges) (t : Turns) (next : Charges) → AreCharged sources c → length c.list < 4096 → off ≤ 2147483647 → AreTurns sources c.turns t → with_charge c off t ≡ next
+    → AreCharged sources next
+charge_more sources off c t next are room within turns same =
     let charge : Charge = record { off = off; items = t.items } in
-    record {
+    let kept : AreCharged sources (with_charge c off t) = record {
       sources = are.sources;
       count = omega (arith, length-append c.list (charge ∷ []));
       right = All-push (IsRightCharge sources) c.list charge are.right (record { off = omega arith; actors = turns.actors });
       sum = omega (arith, are.sum, turns.sum, sum_by-append (λ (x : Charge). item_turns x.items) c.list (charge ∷ []));
       within = turns.within;
-    }
+    } in
+    subst (AreCharged sources) same kept
 
 charge_keeps : (sources : ℕ) (c : Charges) (ws : List Word) (next : Charges) → AreCharged sources c → charge_line c ws ≡ Ok next → AreCharged sources next
 unfolding charge_line
@@ -123,7 +125,7 @@ charge_keeps sources c ws next are h =
     let kept = words_keep (AreTurns c.sources c.turns) (item_in c.sources) (item_keeps c.sources c.turns) off.0.1 begun turns.0 none turns.1 in
     let board = subst (λ (n : ℕ). AreTurns n c.turns turns.0) are.sources kept in
     let same : with_charge c off.0.0 turns.0 ≡ next = cc in
-    subst (AreCharged sources) same (charge_more sources off.0.0 c turns.0 are (ltb-true _ _ roomy.0) (number_le 2147483647 first.0 off.0 off.1) board)
+    charge_more sources off.0.0 c turns.0 next are (ltb-true _ _ roomy.0) (number_le 2147483647 first.0 off.0 off.1) board same
 
 end_keeps : (count sources : ℕ) (c : Charges) (ls : List Line) (list : List Charge) → AreCharged sources c → power_end count c ls ≡ Ok list → AreCharges sources list
 unfolding power_end
