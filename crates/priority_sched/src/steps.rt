@@ -1,9 +1,9 @@
 //! The row that follows each access of a scan.
-ghost use Rattle.std.specs.Prelude.{◌≡◌, ◌<◌, ◌^◌, length};
-ghost use Rattle.std.specs.Option.{ForSome};
+ghost use Rattle.std.specs.Prelude.{◌≡◌};
 ghost use Rattle.prog_check.specs.Lookup.{thread_def};
 ghost use Rattle.priority_sched.specs.Scan.{scan_takes, scan_next, after_finished, after_value, after_look, chain_pick, queue_pick, IsScan, IsScanWord};
 ghost use Rattle.priority_sched.specs.Scan as scan;
+ghost use Rattle.priority_sched.specs.Order as order;
 ghost use Rattle.priority_sched.specs.declared.scan_at.ScanAt.TheVariants.{Running, Finished, Picked};
 
 use crate::chain::Chain;
@@ -11,7 +11,7 @@ use crate::machine::ScanMachine;
 use crate::order::{next_below, priority_of};
 use crate::origin::{event_at, origin_of, running_of};
 use crate::scan_at::ScanAt;
-use ink_base::{Event, Origin, TaskId, ThreadId};
+use ink_base::{Event, Origin, TaskId};
 use ink_layout::{Pick, Plan};
 
 impl ScanMachine {
@@ -23,10 +23,7 @@ impl ScanMachine {
         ensures row { IsScan plan.now.accepted result }
     {
         match self.at {
-            ScanAt::Clock => ScanMachine { time: word, ..self }.next(
-                plan,
-                next_below(plan.program(), 256),
-            ),
+            ScanAt::Clock => ScanMachine { time: word, ..self }.below(plan, 256),
             ScanAt::Commit => self.with(ScanAt::Running { commit_word: word }),
             ScanAt::Running { commit_word } => self.after_running(plan, commit_word, word),
             ScanAt::Finished {
@@ -54,15 +51,13 @@ impl ScanMachine {
         ScanMachine { at, ..self }
     }
 
-    /// The first row of the next thread, or the end where there is none.
-    fn next(self, plan: &Plan, next: Option<ThreadId>) -> ScanMachine
-        requires row { IsScan plan.now.accepted self }
-        requires known { ForSome next (λ u. u.0 < length plan.now.accepted.threads) }
-        ensures next { result ≡ scan_next self.thread self.time next }
+    /// The first row of the thread of the greatest priority below the bound, or the end where there is none.
+    fn below(self, plan: &Plan, bound: u32) -> ScanMachine
+        requires { IsScan plan.now.accepted self }
+        ensures next { result ≡ scan_next self.thread self.time (order.next_below plan.now.accepted bound) }
         ensures row { IsScan plan.now.accepted result }
     {
-        let _plan = plan;
-        match next {
+        match next_below(plan.program(), bound) {
             Some(thread) => ScanMachine {
                 thread,
                 at: ScanAt::Commit,
@@ -149,9 +144,8 @@ impl ScanMachine {
         match event {
             Some(event) => self.queued(commit_word, position, event),
             None => {
-                let program = plan.program();
-                let priority = priority_of(program, self.thread.0 as usize);
-                self.next(plan, next_below(program, priority as u32))
+                let priority = priority_of(plan.program(), self.thread.0 as usize);
+                self.below(plan, priority as u32)
             }
         }
     }

@@ -10,3 +10,6 @@ pub use address::{commit_at, header_at, slot_at};
 pub use boot_at::BootAt;
 pub use laws::boot_releases;
 pub use machine::BootMachine;
+
+#[cfg(test)]
+mod tests;
