@@ -14,7 +14,7 @@ use Rattle.task_isa.specs.Meaning.{run}
 use Rattle.prog_check.specs.Lookup.{thread_def, task_def}
 use Rattle.ink_layout.specs.declared.pick.Pick.{Pick}
 use Rattle.never_cut.specs.declared.model.Model.{Model}
-use Rattle.never_cut.specs.Stands.{Saved, saved, thread_words, origin_word, log_of, AreLogged, StandsPrivate}
+use Rattle.never_cut.specs.Stands.{Saved, saved, thread_words, origin_word, log_of, AreLogged, StandsPrivate, StandsThread}
 use Rattle.never_cut.specs.Sound.{HasShape}
 use Rattle.never_cut.specs.Picked.{IsPicked}
 use Rattle.task_run.specs.declared.ending.Ending.{Ending}
@@ -165,7 +165,7 @@ serving_at program m words r e phase y s o v h progress = record {
 }
 
 -- what the working copy is without writes
-pub unwritten : (program : Program) (m : Model) (words : Memory) (t commit : ℕ) (h : Rattle.never_cut.specs.Stands.StandsThread words program m t) →
+pub unwritten : (program : Program) (m : Model) (words : Memory) (t commit : ℕ) (h : StandsThread words program m t) →
     commit ≡ words (Commit t) → Buffered words t (no_writes commit) (λ k. get_or (thread_words (saved program m t) h.stamp h.origin h.value) k 0)
 unwritten program m words t commit h is = record {
   commit = is;

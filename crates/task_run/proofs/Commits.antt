@@ -1,6 +1,7 @@
 -- The store that commits.
 use Rattle.std.proofs.Common.{◌≡◌, ℕ, ◌+◌, Bool, true, false, List, [], ◌++◌, arith, refl, ap, ◌∙◌, sym, subst}
 use Rattle.std.specs.Prelude.{Option, Some, None, slice_set, ◌||◌, ◌&&◌, if◌then◌else◌}
+use Rattle.ink_base.specs.declared.ids.TaskId.{TaskId}
 use Rattle.ink_base.specs.declared.event.Event.{Event}
 use Rattle.ink_base.specs.declared.event.Origin.{Origin}
 use Rattle.fram_words.specs.Places.{Memory}
@@ -17,7 +18,7 @@ use Rattle.never_cut.specs.declared.scan_model.ScanModel.{ScanModel}
 use Rattle.never_cut.specs.declared.thread_model.ThreadModel.{ThreadModel}
 use Rattle.never_cut.specs.State.{thread_of, is_running}
 use Rattle.never_cut.specs.Pending.{pending}
-use Rattle.never_cut.specs.Commit.{commit, committed, expired, ended, end_at, start_at, consumed, taken_from, moved_on, is_overdue, with_sends, with_timers, stamped, outputs_of, is_of_queue, thread_after}
+use Rattle.never_cut.specs.Commit.{task_at, commit, committed, expired, ended, end_at, start_at, consumed, taken_from, moved_on, is_overdue, with_sends, with_timers, stamped, outputs_of, is_of_queue, thread_after}
 use Rattle.never_cut.specs.Stands.{Saved, saved, flag}
 use Rattle.never_cut.specs.Picked.{IsPicked}
 use Rattle.task_run.specs.declared.ending.Ending.{Ending}
@@ -60,7 +61,7 @@ committed-idle program m pick ending idle of ends =
     let time : ℕ = pick.time in
     let x : ThreadModel = thread_of m t in
     let a : Assignment = assignment program m pick in
-    let rests : is_running x ≡ false = ap (λ (o : Option Rattle.ink_base.specs.declared.ids.TaskId.TaskId). is_running (record x { running = o })) idle in
+    let rests : is_running x ≡ false = ap (λ (o : Option TaskId). is_running (record x { running = o })) idle in
     let by_task : ℕ → TaskEnd = λ k. task_of (task_def program k).code (task_def program k).limit (start_at program m t e time) in
     let first : Bool → Model = λ b.
     let next = (if b && is_overdue (thread_def program t).expires x.first time then expired t e m else ended t e time (end_at program m t e time) (consumed b e m)) in
@@ -81,8 +82,8 @@ committed-idle program m pick ending idle of ends =
     in
     let end : TaskEnd = end_of a (saved program m t) in
     let fourth : List Sent → List TimerSet → Model = λ sends timers. record (third false end) { pipes = with_sends sends m.pipes; timers = with_timers timers m.timers } in
-    let task : Rattle.never_cut.specs.Commit.task_at program m t ≡ first_task program t =
-    ap (λ (o : Option Rattle.ink_base.specs.declared.ids.TaskId.TaskId). elim o [ Some task ↦ task.0 | None ↦ first_task program t ]) idle
+    let task : task_at program m t ≡ first_task program t =
+    ap (λ (o : Option TaskId). elim o [ Some task ↦ task.0 | None ↦ first_task program t ]) idle
     in
     ap first rests
     ∙ (ap second of.is

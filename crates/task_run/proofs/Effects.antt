@@ -4,6 +4,7 @@ use Rattle.std.specs.Prelude.{None, filter, slice_set, ◌==◌, ◌||◌}
 use Rattle.std.proofs.lemmas.Bool.{cases_Bool, eq-eqb, ne_eqb}
 use Rattle.std.proofs.lemmas.List.{append-nil, get_or-set_same, get_or-set_other}
 use Rattle.std.proofs.lemmas.List.Elements.{filter-append}
+use Rattle.ink_base.specs.declared.ids.SourceId.{SourceId}
 use Rattle.ink_base.specs.declared.event.Event.{Event}
 use Rattle.ink_base.specs.declared.event.Origin.{Origin}
 use Rattle.ink_base.specs.declared.event.Origin.TheVariants as origins
@@ -90,7 +91,7 @@ pub record Serves (x y : ThreadModel) : Type 0 where
 or-true : (b : Bool) → (b || true) ≡ true
 or-true b = elim (cases_Bool b) [ inl t ↦ rw t refl | inr f ↦ rw f refl ]
 
-pub of_queue : (e : Event) (source : Rattle.ink_base.specs.declared.ids.SourceId.SourceId) (count : ℕ) → e.origin ≡ origins.Source source count → is_of_queue e ≡ true
+pub of_queue : (e : Event) (source : SourceId) (count : ℕ) → e.origin ≡ origins.Source source count → is_of_queue e ≡ true
 of_queue e source count is = ap (λ (o : Origin). is_of_queue (record e { origin = o })) is
 
 pub next-serves : (program : Program) (pick : Pick) (limit : ℕ) (state : List ℕ) (w : RunEnd) (ending : Ending) (x : ThreadModel) → IsOf program pick.event → IsEndOf w ending →

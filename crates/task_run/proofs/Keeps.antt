@@ -1,8 +1,8 @@
 -- Every access of a task is kept.
 use Rattle.std.proofs.Common.{◌≡◌, ℕ, ◌+◌, ◌*◌, ◌/◌, ◌%◌, ◌^◌, ◌<◌, false, length, arith, refl, ap, ◌∙◌, sym, inl, inr, subst}
-use Rattle.std.proofs.lemmas.Bool.{cases_Bool, cases_eq}
+use Rattle.std.proofs.lemmas.Bool.{false≢true, cases_Bool, cases_eq}
 use Rattle.ink_base.specs.declared.ids.SourceId.{SourceId}
-use Rattle.fram_words.specs.Places.{Commit, Log, Slot, Ack, Memory, Access, store, perform, answer}
+use Rattle.fram_words.specs.Places.{Place, Commit, Log, Slot, Ack, Memory, Access, Load, Store, store, perform, answer}
 use Rattle.fram_words.proofs.Frames.{store-same}
 use Rattle.push_core.specs.Slots.{empty_word}
 use Rattle.thread_state.specs.Pages.{Buffer, Copying, Loading, Storing, IsUnderWay, is_dirty, put_access, copy_access}
@@ -101,7 +101,7 @@ module _ (program : Program) (readings : Readings) (words : Memory) (m : Model) 
   writes phase u v h under = put_calmly program words m pick.thread.0 b u v h.buffered.commit under g.private g.shared
 
   -- a load
-  loads : (place : Rattle.fram_words.specs.Places.Place) → IsCalmly program words m (Rattle.fram_words.specs.Places.Load place)
+  loads : (place : Place) → IsCalmly program words m (Load place)
   loads place = record { private = g.private; shared = g.shared; allowed = tt; copies = λ t w. refl }
 
   serving_of : (phase : Phase) → Serving program words m (machine_at pick stamp b ending e phase) → IsOf program pick.event
@@ -195,7 +195,7 @@ module _ (program : Program) (readings : Readings) (words : Memory) (m : Model) 
       let count : length h.y.outputs ≡ length x.outputs + length run.outs = outputs_length (stamp + 1) t h.y.state run.outs (begun pick x) h.y run.made in
       let at : n ≡ length h.y.outputs = h.progress.1 in
       let word : ℕ = (stamp + 1) * 2 ^ 32 + v in
-      let calmly : IsCalmly program words m (Rattle.fram_words.specs.Places.Store (Log t n) word) = record {
+      let calmly : IsCalmly program words m (Store (Log t n) word) = record {
         private = log_step_private program words m t n word (omega arith) g.private;
         shared = log_step_kernel program words m t n word g.shared;
         allowed = tt;
@@ -218,7 +218,7 @@ module _ (program : Program) (readings : Readings) (words : Memory) (m : Model) 
   keeps StoreCommit h more = commit_keeps h
   keeps (StoreAck source count) h more = ack_keeps source count h
   keeps StoreEmpty h more = release_keeps h.0 h.1 h.2 h.3
-  keeps Over h more = absurd (Rattle.std.proofs.lemmas.Bool.false≢true (sym more))
+  keeps Over h more = absurd (false≢true (sym more))
 
 pub every_task_commits : EveryTaskCommits
 every_task_commits program readings words m r code g knows more =

@@ -1,14 +1,13 @@
 -- The numbers of a task's registers are in their ranges.
-use Rattle.std.proofs.Common.{◌≡◌, ℕ, ◌+◌, ◌-◌, ◌^◌, ◌<◌, ◌≤◌, Bool, true, false, List, length, arith, refl, ap, ◌∙◌, sym, subst}
+use Rattle.std.proofs.Common.{◌≡◌, ℕ, ◌+◌, ◌-◌, ◌^◌, ◌<◌, ◌≤◌, false, length, arith, refl, ap, ◌∙◌, sym, subst}
 use Rattle.std.proofs.lemmas.Bool.{false≢true}
 use Rattle.std.proofs.lemmas.List.Sums.{get_or-le-sum_by}
 use Rattle.ink_base.specs.declared.event.Event.{Event}
-use Rattle.ink_base.specs.declared.event.Origin.{Origin}
 use Rattle.ink_base.specs.declared.event.Origin.TheVariants as origins
 use Rattle.fram_words.specs.Places.{Memory, answer}
 use Rattle.task_isa.specs.declared.program.Program.{Program}
 use Rattle.task_isa.specs.declared.program.Task.{Task}
-use Rattle.prog_check.specs.Lookup.{thread_def, task_def, no_task_def}
+use Rattle.prog_check.specs.Lookup.{thread_def, task_def, no_task_def, code_len}
 use Rattle.prog_check.specs.Accepted.{IsAccepted}
 use Rattle.ink_layout.specs.declared.pick.Pick.{Pick}
 use Rattle.thread_state.specs.Pages.{Buffer, working}
@@ -23,7 +22,6 @@ use Rattle.task_run.specs.declared.ending.Ending.{Ending}
 use Rattle.task_run.specs.declared.execution.Execution.{Execution}
 use Rattle.task_run.specs.declared.phase.Phase.{Phase}
 use Rattle.task_run.specs.declared.phase.Phase.TheVariants.{WriteFirst, WriteOrigin, WriteValue, Fetch, ReadState, WriteState, ReadCount, StoreLog, WriteCount, WriteNext, WriteFinished, ReadTotal, WriteTotal, WriteStamp, StoreCommit, StoreAck, StoreEmpty, Over}
-use Rattle.task_run.specs.declared.machine.TaskMachine.{TaskMachine}
 use Rattle.task_run.specs.Endings.{total_word}
 use Rattle.task_run.specs.Machine.{want, is_over}
 use Rattle.task_run.specs.Fits.{FitsExecution, FitsOrigin, FitsPhase, FitsTask}
@@ -37,7 +35,7 @@ use Rattle.task_run.proofs.Ends.{IsOf, picked_of, of_ends}
 code_small : (program : Program) (x : ℕ) → IsAccepted program → x < length program.tasks → length (task_def program x).code ≤ 4096
 code_small program x accepted known =
     let few = accepted.counts.code in
-    let one : length (task_def program x).code ≤ Rattle.prog_check.specs.Lookup.code_len program = get_or-le-sum_by (λ (task : Task). length task.code) program.tasks x no_task_def known in
+    let one : length (task_def program x).code ≤ code_len program = get_or-le-sum_by (λ (task : Task). length task.code) program.tasks x no_task_def known in
     omega arith
 
 running_fits : (program : Program) (m : Model) (pick : Pick) (stamp : ℕ) (ending : Ending) (e : Execution) (y : Saved) (o v : ℕ) → IsAccepted program → pick.thread.0 < length program.threads →

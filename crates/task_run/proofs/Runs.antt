@@ -4,6 +4,7 @@ use Rattle.task_isa.specs.declared.instr.Instr.{Instr}
 use Rattle.task_isa.specs.declared.act.Act.{Act}
 use Rattle.task_isa.specs.declared.act.Act.TheVariants.{Ends}
 use Rattle.task_isa.specs.declared.outcome.Outcome.TheVariants as outcomes
+use Rattle.task_isa.specs.declared.outcome.TrapCode.{TrapCode}
 use Rattle.task_isa.specs.Acts.{Given, Cpu, act_of}
 use Rattle.task_isa.specs.Meaning.{Config, Room, RunEnd, Ended, Trapped, Stepped, GoesOn, IsOver, HasTrapped, execute, run, instr_at}
 use Rattle.ink_layout.specs.declared.pick.Pick.{Pick}
@@ -62,7 +63,7 @@ going_from x a pick stamp ending e y o v g act is cpu z outs goes inside made = 
 
 pub trap_from : (x : Saved) (a : Assignment) (pick : Pick) (stamp : ℕ) (ending : Ending) (e : Execution) (y : Saved) (o v : ℕ) →
     (g : Running x a pick stamp ending e y o v) → (act : Act) → act_of (instr_at a.code e.at) a.given (cpu_of e) ≡ act →
-    (code : Rattle.task_isa.specs.declared.outcome.TrapCode.TrapCode) → execute act a.given a.room (config_of e y g.outs) ≡ HasTrapped code →
+    (code : TrapCode) → execute act a.given a.room (config_of e y g.outs) ≡ HasTrapped code →
     IsTrap (whole a x)
 trap_from x a pick stamp ending e y o v g act is code traps =
     let ends : Trapped code (a.limit - (e.executed + 1)) ≡ whole a x =

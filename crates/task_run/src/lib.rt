@@ -12,6 +12,8 @@ mod machine;
 mod parts;
 mod phase;
 mod steps;
+#[cfg(test)]
+mod tests;
 mod want;
 
 pub use buffer::Buffer;

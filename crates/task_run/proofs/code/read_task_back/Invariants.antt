@@ -1,4 +1,4 @@
-use Rattle.std.proofs.Common.{ℕ, ◌<◌, length}
+use Rattle.std.proofs.Common.{ℕ, ◌<◌}
 use Rattle.prog_check.specs.Lookup.{task_def, instr_at}
 use Rattle.task_run.specs.Knows.{IsReadBack}
 use Rattle.task_run.proofs.code.read_task_back.Given as goal
