@@ -16,3 +16,6 @@ pub use making::make_layout;
 pub use pick::Pick;
 pub use plan::Plan;
 pub use slot_at::SlotAt;
+
+#[cfg(test)]
+mod tests;
