@@ -2,7 +2,7 @@
 
 use crate::image::first_image;
 use crate::plan::Plan;
-use fram_words::Fram;
+use fram_words::{Fram, Layout};
 use ink_base::{JobAnswer, NoMemory, ThreadId};
 use prog_check::check;
 use sqlite_items::Items;
@@ -19,27 +19,20 @@ fn no_lines(alloc: Global) -> Lines {
     }
 }
 
-fn thread(alloc: Global, state: u16) -> Result<ThreadDef, NoMemory> {
-    Ok(ThreadDef {
+fn one_thread(alloc: Global, state: u16) -> Result<Items<ThreadDef>, NoMemory> {
+    let mut threads = Items::new(alloc);
+    threads.push(ThreadDef {
         name: Name::new(alloc, b"a")?,
         priority: 1,
         queue: 2,
         state,
         log: 8,
         expires: None,
-    })
+    })?;
+    Ok(threads)
 }
 
-// A thread with one task, and the sources and timers that are given.
-fn plan(
-    alloc: Global,
-    state: u16,
-    sources: Items<ThreadId>,
-    timers: Items<TimerDef>,
-    code: Vec<Instr>,
-) -> Result<Plan, JobAnswer> {
-    let mut threads = Items::new(alloc);
-    threads.push(thread(alloc, state)?)?;
+fn one_task(alloc: Global, code: Vec<Instr>) -> Result<Items<Task>, NoMemory> {
     let mut tasks = Items::new(alloc);
     tasks.push(Task {
         name: Name::new(alloc, b"sum")?,
@@ -47,80 +40,10 @@ fn plan(
         limit: 100,
         code: Items::from_vec(code),
     })?;
-    let program = Program {
-        threads,
-        sources,
-        pipes: Items::new(alloc),
-        timers,
-        tasks,
-    };
-    let accepted = check(program, &no_lines(alloc))?;
-    Ok(Plan::new(alloc, accepted)?)
+    Ok(tasks)
 }
 
-// The addresses and words of an image that aren't 0.
-fn full_words(alloc: Global, fram: &Fram) -> Result<Vec<(u32, u64)>, NoMemory> {
-    let mut full = Vec::new(alloc);
-    for addr in 0..fram.len() {
-        let word = fram.word(addr);
-        if word != 0 {
-            full.push((addr, word))?;
-        }
-    }
-    Ok(full)
-}
-
-#[test]
-fn a_thread_a_source_and_their_code(rt: HostRuntime) -> Result<(), Fail> {
-    let alloc = rt.alloc();
-    let (r1, r2, r3) = (Reg::new(1), Reg::new(2), Reg::new(3));
-    let code = vec![in alloc;
-        Instr::Li { a: r1, i: 0 },
-        Instr::Ld { a: r2, b: r1 },
-        Instr::Ev { a: r3 },
-        Instr::Add {
-            a: r2,
-            b: r2,
-            c: r3
-        },
-        Instr::St { a: r2, b: r1 },
-        Instr::Out { a: r2 },
-        Instr::Done,
-    ]?;
-    let mut sources = Items::new(alloc);
-    sources.push(ThreadId(0))?;
-    let plan = plan(alloc, 1, sources, Items::new(alloc), code)?;
-    let layout = &plan.layout;
-    let a = layout.threads.as_slice().first().ok_or("no thread")?;
-    let queue = layout.queues.as_slice().first().ok_or("no queue")?;
-    assert_eq!(rt; layout.tasks.as_slice(), [0].as_slice());
-    assert_eq!(rt; (a.commit, a.first, a.words, a.log), (7, 8, 49, 120));
-    assert_eq!(rt; layout.rings.len(), 0);
-    assert_eq!(rt; layout.private, 128);
-    assert_eq!(rt; (queue.tail, queue.slots, queue.places), (128, 129, 2));
-    assert_eq!(rt;
-        (layout.acks, layout.clock, layout.srcs, layout.words),
-        (131, 132, 133, 134)
-    );
-    let image = first_image(alloc, &plan.accepted, &plan.layout)?;
-    assert_eq!(rt; image.len(), 134);
-    let expected = [
-        (0, 0x101),
-        (1, 0x1216),
-        (2, 0x312),
-        (3, 0x32203),
-        (4, 0x1217),
-        (5, 0x218),
-        (6, 0x1d),
-        (130, 0x400_0000_0000),
-    ];
-    assert_eq!(rt; full_words(alloc, &image)?.as_slice(), expected.as_slice());
-    Ok(())
-}
-
-#[test]
-fn a_timer_starts_in_both_copies(rt: HostRuntime) -> Result<(), Fail> {
-    let alloc = rt.alloc();
+fn one_timer(alloc: Global) -> Result<Items<TimerDef>, NoMemory> {
     let mut timers = Items::new(alloc);
     timers.push(TimerDef {
         name: Name::new(alloc, b"tick")?,
@@ -128,17 +51,141 @@ fn a_timer_starts_in_both_copies(rt: HostRuntime) -> Result<(), Fail> {
         due: Some(10),
         period: 20,
     })?;
-    let code = vec![in alloc; Instr::Done]?;
-    let plan = plan(alloc, 0, Items::new(alloc), timers, code)?;
+    Ok(timers)
+}
+
+fn sum_code(alloc: Global) -> Result<Vec<Instr>, NoMemory> {
+    let (r1, r2, r3) = (Reg::new(1), Reg::new(2), Reg::new(3));
+    let mut code = Vec::new(alloc);
+    code.push(Instr::Li { a: r1, i: 0 })?;
+    code.push(Instr::Ld { a: r2, b: r1 })?;
+    code.push(Instr::Ev { a: r3 })?;
+    code.push(Instr::Add {
+        a: r2,
+        b: r2,
+        c: r3,
+    })?;
+    code.push(Instr::St { a: r2, b: r1 })?;
+    code.push(Instr::Out { a: r2 })?;
+    code.push(Instr::Done)?;
+    Ok(code)
+}
+
+fn plan_of(alloc: Global, program: Program) -> Result<Plan, JobAnswer> {
+    let accepted = check(program, &no_lines(alloc))?;
+    Ok(Plan::new(alloc, accepted)?)
+}
+
+fn sum_plan(alloc: Global) -> Result<Plan, JobAnswer> {
+    let program = Program {
+        threads: one_thread(alloc, 1)?,
+        sources: Items::from_slice(alloc, &[ThreadId(0)])?,
+        pipes: Items::new(alloc),
+        timers: Items::new(alloc),
+        tasks: one_task(alloc, sum_code(alloc)?)?,
+    };
+    plan_of(alloc, program)
+}
+
+fn timer_plan(alloc: Global) -> Result<Plan, JobAnswer> {
+    let mut code = Vec::new(alloc);
+    code.push(Instr::Done)?;
+    let program = Program {
+        threads: one_thread(alloc, 0)?,
+        sources: Items::new(alloc),
+        pipes: Items::new(alloc),
+        timers: one_timer(alloc)?,
+        tasks: one_task(alloc, code)?,
+    };
+    plan_of(alloc, program)
+}
+
+// The numbers of a layout, in the order of its fields.
+fn numbers(alloc: Global, layout: &Layout) -> Result<Vec<u32>, NoMemory> {
+    let mut numbers = Vec::from_slice(alloc, layout.tasks.as_slice())?;
+    for thread in layout.threads.as_slice() {
+        numbers.push(thread.commit)?;
+        numbers.push(thread.first)?;
+        numbers.push(thread.words)?;
+        numbers.push(thread.log)?;
+    }
+    numbers.push(layout.private)?;
+    for queue in layout.queues.as_slice() {
+        numbers.push(queue.tail)?;
+        numbers.push(queue.slots)?;
+        numbers.push(queue.places as u32)?;
+    }
+    numbers.push(layout.acks)?;
+    numbers.push(layout.clock)?;
+    numbers.push(layout.srcs)?;
+    numbers.push(layout.words)?;
+    Ok(numbers)
+}
+
+// The addresses of the words of a plan's first image that aren't 0, each followed by its word.
+fn full_words(alloc: Global, plan: &Plan) -> Result<Vec<u64>, NoMemory> {
     let image = first_image(alloc, &plan.accepted, &plan.layout)?;
+    full_of(alloc, &image)
+}
+
+fn full_of(alloc: Global, fram: &Fram) -> Result<Vec<u64>, NoMemory> {
+    let mut full = Vec::new(alloc);
+    for addr in 0..fram.len() {
+        let word = fram.word(addr);
+        if word != 0 {
+            full.push(addr as u64)?;
+            full.push(word)?;
+        }
+    }
+    Ok(full)
+}
+
+#[test]
+fn addresses_of_a_thread_and_its_source(rt: HostRuntime) -> Result<(), Fail> {
+    let plan = sum_plan(rt.alloc())?;
+    let expected = [0, 7, 8, 49, 120, 128, 128, 129, 2, 131, 132, 133, 134];
+    assert_eq!(rt;
+        numbers(rt.alloc(), &plan.layout)?.as_slice(),
+        expected.as_slice()
+    );
+    Ok(())
+}
+
+#[test]
+fn code_and_empty_slots_of_a_first_image(rt: HostRuntime) -> Result<(), Fail> {
+    let plan = sum_plan(rt.alloc())?;
     let expected = [
-        (0, 0x1d),
-        (52, 11),
-        (53, 20),
-        (60, 11),
-        (61, 20),
-        (108, 0x400_0000_0000),
+        0,
+        0x101,
+        1,
+        0x1216,
+        2,
+        0x312,
+        3,
+        0x32203,
+        4,
+        0x1217,
+        5,
+        0x218,
+        6,
+        0x1d,
+        130,
+        1 << 42,
     ];
-    assert_eq!(rt; full_words(alloc, &image)?.as_slice(), expected.as_slice());
+    assert_eq!(rt;
+        full_words(rt.alloc(), &plan)?.as_slice(),
+        expected.as_slice()
+    );
+    Ok(())
+}
+
+#[test]
+fn a_timer_starts_in_both_copies(rt: HostRuntime) -> Result<(), Fail> {
+    let plan = timer_plan(rt.alloc())?;
+    let expected = [0, 0x1d, 52, 11, 53, 20, 60, 11, 61, 20, 108, 1 << 42];
+    assert_eq!(rt;
+        full_words(rt.alloc(), &plan)?.as_slice(),
+        expected.as_slice()
+    );
     Ok(())
 }
