@@ -1,3 +1,6 @@
 pub mod Kernel
 pub mod Record
 pub mod Board
+pub mod Views
+pub mod Holds
+pub mod Moves

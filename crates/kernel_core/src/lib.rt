@@ -2,5 +2,7 @@
 #![tactic(auto)]
 
 mod kernel;
+mod laws;
 
 pub use kernel::Kernel;
+pub use laws::boards_stand;

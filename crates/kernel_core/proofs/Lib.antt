@@ -1,0 +1,14 @@
+pub mod Sides
+pub mod Quiet
+pub mod KernelSteps
+pub mod KernelMoves
+pub mod KernelTurns
+pub mod Others
+pub mod Charges
+pub mod KernelPlaces
+pub mod SourcePlaces
+pub mod Turns
+pub mod Cuts
+pub mod Runs
+pub mod Standing
+pub mod Firsts
