@@ -1,0 +1,12 @@
+//! The text that a board prints of a run.
+#![tactic(auto)]
+
+mod flags;
+mod numbers;
+mod outputs;
+mod report;
+mod sources;
+mod threads;
+
+pub use flags::Flags;
+pub use report::run_text;
