@@ -10,3 +10,6 @@ mod threads;
 
 pub use flags::Flags;
 pub use report::run_text;
+
+#[cfg(test)]
+mod tests;
