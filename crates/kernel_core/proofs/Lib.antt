@@ -12,3 +12,4 @@ pub mod Cuts
 pub mod Runs
 pub mod Standing
 pub mod Firsts
+pub mod Settled

@@ -4,3 +4,4 @@ pub mod Board
 pub mod Views
 pub mod Holds
 pub mod Moves
+pub mod Settled
