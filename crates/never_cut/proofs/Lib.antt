@@ -14,3 +14,12 @@ pub mod SoundSteps
 pub mod Picks
 pub mod SoundCommits
 pub mod SoundStates
+pub mod Firsts
+pub mod Counted
+pub mod Rooms
+pub mod Runnables
+pub mod Timely
+pub mod Bounds
+pub mod Steps
+pub mod Opens
+pub mod Replays

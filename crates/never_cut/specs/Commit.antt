@@ -1,5 +1,5 @@
 -- What a commit makes of a state.
-use Rattle.std.specs.Prelude.{ℕ, ◌+◌, ◌-◌, ◌==◌, ◌||◌, ◌&&◌, nat_lt, Bool, true, false, if◌then◌else◌, List, [], ◌∷◌, ◌++◌, length, map, drop, filter, slice_set, slice_index_or, Option, Some, None}
+use Rattle.std.specs.Prelude.{ℕ, ◌+◌, ◌-◌, ◌==◌, ◌||◌, ◌&&◌, nat_lt, Bool, true, false, if◌then◌else◌, List, [], ◌∷◌, ◌++◌, length, map, drop, slice_set, slice_index_or, Option, Some, None}
 use Rattle.std.specs.List.{enumerate_from}
 use Rattle.ink_base.specs.declared.ids.TaskId.{TaskId}
 use Rattle.ink_base.specs.declared.event.Event.{Event}
@@ -22,10 +22,11 @@ use Rattle.never_cut.specs.declared.pipe_model.PipeModel.{PipeModel}
 use Rattle.never_cut.specs.declared.timer_model.TimerModel.{TimerModel}
 use Rattle.never_cut.specs.State.{thread_of, pipe_of, is_running, no_pipe, no_timer}
 use Rattle.never_cut.specs.Pending.{pending}
+pub use Rattle.never_cut.specs.Outputs.{outputs_in, stamped}
 
 -- the outputs of a thread, in order
 abbrev pub outputs_of : Model → ℕ → List Output
-outputs_of m t = filter (λ (o : Output). o.thread.0 == t) m.outputs
+outputs_of m t = outputs_in t m.outputs
 
 -- the places of a pipe that hold no item
 abbrev pub room_in : Model → ℕ × PipeDef → ℕ
@@ -103,9 +104,6 @@ abbrev pub with_timers : List TimerSet → List TimerModel → List TimerModel
 with_timers [] timers = timers
 with_timers (s ∷ settings) timers =
     with_timers settings (slice_set timers s.timer.0 (set_by s (slice_index_or timers s.timer.0 no_timer)))
-
-abbrev pub stamped : ℕ → ℕ → List ℕ → List Output
-stamped stamp t outs = map (λ value. record { stamp = stamp; thread = record { 0 = t }; value = value }) outs
 
 -- the service is over; a queue's event is finished
 abbrev pub is_of_queue : Event → Bool

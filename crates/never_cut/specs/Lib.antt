@@ -1,5 +1,6 @@
 pub mod State
 pub mod Pending
+pub mod Outputs
 pub mod Commit
 pub mod Entries
 pub mod Journal
@@ -9,3 +10,6 @@ pub mod Plain
 pub mod Actors
 pub mod Steps
 pub mod Picked
+pub mod Within
+pub mod Replaying
+pub mod Replay

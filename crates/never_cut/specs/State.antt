@@ -1,5 +1,6 @@
 -- The parts of a state by their numbers, and the state at the start.
-use Rattle.std.specs.Prelude.{ℕ, ◌==◌, ◌||◌, Bool, true, false, if◌then◌else◌, List, [], ◌∷◌, map, drop, replicate, slice_index_or, slice_set, Some, None}
+use Rattle.std.specs.Prelude.{ℕ, ◌==◌, Bool, true, false, if◌then◌else◌, List, [], map, drop, replicate, slice_index_or, slice_set, Some, None}
+use Rattle.std.specs.List.{list_any}
 use Rattle.ink_base.specs.declared.ids.ThreadId.{ThreadId}
 use Rattle.ink_base.specs.declared.event.Event.{Event}
 use Rattle.task_isa.specs.declared.program.Program.{Program}
@@ -58,8 +59,7 @@ with_source m i s = record m { sources = slice_set m.sources i s }
 
 -- a number is among the threads
 abbrev pub is_looked : List ThreadId → ℕ → Bool
-is_looked [] t = false
-is_looked (u ∷ us) t = (u.0 == t) || is_looked us t
+is_looked looked t = list_any (λ (u : ThreadId). u.0 == t) looked
 
 -- the events of the queue that aren't finished
 abbrev pub unfinished : ThreadModel → List Event

@@ -1,15 +1,28 @@
 //! The kernel that is never cut: its state, the journal of a run, and the state after it.
 #![tactic(auto)]
 
+mod effects;
+mod evaluating;
+mod journal;
+mod kept_outputs;
+mod legal;
 mod model;
+mod opening;
+mod parts;
+mod pending;
 mod pipe_model;
+mod replay_fault;
+mod replaying;
 mod scan_model;
+mod serving;
 mod source_model;
 mod thread_model;
 mod timer_model;
 
+pub use journal::replay;
 pub use model::Model;
 pub use pipe_model::PipeModel;
+pub use replay_fault::ReplayFault;
 pub use scan_model::ScanModel;
 pub use source_model::SourceModel;
 pub use thread_model::ThreadModel;

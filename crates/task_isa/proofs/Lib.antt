@@ -2,3 +2,4 @@ pub mod Codes
 mod Sends
 mod Fitting
 mod Runs
+pub mod Nexts

@@ -1,0 +1,6 @@
+use Rattle.std.proofs.Common.{◌≡◌, map, take}
+use Rattle.never_cut.specs.State.{open_pipe}
+use Rattle.never_cut.proofs.opening.pipes_at_start.Given as goal
+
+abbrev pub invariant-loop-pipe : goal.invariant-loop-pipe
+invariant-loop-pipe l = l.models.items ≡ map open_pipe (take l._pipe-index l.pipes)

@@ -1,0 +1,55 @@
+-- The bounds of a state that few entries lead to, and the readings that a board can have.
+use Rattle.std.specs.Prelude.{◌≡◌, ℕ, ◌-◌, ◌^◌, ◌<◌, ◌≤◌, true, length, All}
+use Rattle.std.specs.Option.{ForSome}
+use Rattle.ink_base.specs.declared.event.Event.{Event}
+use Rattle.ink_base.specs.declared.event.Origin.TheVariants as origins
+use Rattle.task_isa.specs.declared.program.Program.{Program}
+use Rattle.never_cut.specs.declared.model.Model.{Model}
+use Rattle.never_cut.specs.declared.thread_model.ThreadModel.{ThreadModel}
+use Rattle.never_cut.specs.declared.source_model.SourceModel.{SourceModel}
+use Rattle.never_cut.specs.State.{thread_of, pipe_of, source_of}
+use Rattle.never_cut.specs.Commit.{is_of_queue}
+use Rattle.never_cut.specs.Entries.{Readings, readings_of}
+
+-- one list of readings for each source, none of them too long
+pub record AreReadings (program : Program) (readings : Readings) : Type 0 where
+  pub count : length readings ≡ length program.sources
+  pub few : (i : ℕ) → length (readings_of readings i) ≤ 65535
+
+-- as many of each part as the program declares
+pub record HasParts (program : Program) (m : Model) : Type 0 where
+  pub threads : length m.threads ≡ length program.threads
+  pub pipes : length m.pipes ≡ length program.pipes
+  pub timers : length m.timers ≡ length program.timers
+  pub sources : length m.sources ≡ length program.sources
+
+-- the deadline of a timer's event is below 2^47
+abbrev pub IsTimely : Event → Type 0
+IsTimely e = elim e.origin [ origins.Source source count ↦ Unit {0} | origins.Pipe pipe item ↦ Unit {0} | origins.Timer timer deadline ↦ deadline < 2 ^ 47 ]
+
+-- no count of a thread is above n, its queue holds events of sources, and it runs a task of the program
+pub record IsWithinThread (program : Program) (n : ℕ) (x : ThreadModel) : Type 0 where
+  pub released : x.released ≤ n
+  pub served : x.served ≤ n
+  pub trapped : x.trapped ≤ n
+  pub expired : x.expired ≤ n
+  pub held : All (λ e. is_of_queue e ≡ true) x.held
+  pub running : ForSome x.running (λ task. task.0 < length program.tasks)
+
+pub record IsWithinSource (n : ℕ) (s : SourceModel) : Type 0 where
+  pub next : s.next ≤ n
+  pub accepted : s.accepted ≤ n
+
+-- no count is above n, and times are below 2^47
+pub record IsWithin (program : Program) (n : ℕ) (m : Model) : Type 0 where
+  pub parts : HasParts program m
+  pub clock : m.clock < 2 ^ 47
+  pub scan : ForSome m.scan (λ scan. scan.time < 2 ^ 47)
+  pub commits : m.commits ≤ n
+  pub threads : (t : ℕ) → IsWithinThread program n (thread_of m t)
+  pub pipes : (q : ℕ) → (pipe_of m q).taken ≤ n
+  pub sources : (i : ℕ) → IsWithinSource n (source_of m i)
+
+-- there is room for another entry
+abbrev pub HasRoom : Program → Model → Type 0
+HasRoom program m = IsWithin program (2 ^ 32 - 2) m

@@ -1,0 +1,41 @@
+//! The state after a journal.
+
+ghost use Rattle.std.specs.Prelude.{◌≡◌, ◌^◌, ◌<◌, length, take, IfOk, IfErr};
+ghost use Rattle.never_cut.specs.Journal.{IsLegal, after};
+ghost use Rattle.never_cut.specs.Replay.{TellsIllegal};
+ghost use Rattle.never_cut.specs.Within.{AreReadings};
+
+use crate::model::Model;
+use crate::replay_fault::ReplayFault;
+use crate::replaying::Replaying;
+use ink_base::Entry;
+use prog_check::Accepted;
+use sqlite_items::Items;
+use std::alloc::Global;
+
+/// The state of the never-cut kernel after these entries, fewer than 2^32, given one list of readings for each source, each with at most
+/// 65,535 of them. `Illegal` names the first entry that isn't legal in its place.
+pub fn replay(
+    alloc: Global,
+    program: &Accepted,
+    readings: &[Items<u32>],
+    entries: &[Entry],
+) -> Result<Model, ReplayFault>
+    requires readings { AreReadings program.now readings.now }
+    requires few { length entries.now < 2 ^ 32 }
+    ensures legal { IfOk result (λ _. IsLegal program.now readings.now entries.now) }
+    ensures state { IfOk result (λ m. m ≡ after program.now readings.now entries.now) }
+
+    // An index is told exactly of the first entry that isn't legal.
+    ensures illegal { IfErr result (TellsIllegal program.now readings.now entries.now) }
+{
+    let program = program.program();
+    let mut state = Replaying::open(alloc, program)?;
+    for (n, entry) in entries.iter().enumerate() {
+        if !state.may(program, readings, *entry) {
+            return Err(ReplayFault::Illegal(n as u32));
+        }
+        state.apply(alloc, program, readings, *entry)?;
+    }
+    Ok(state.into_model())
+}
