@@ -1,7 +1,8 @@
 -- A turn of the clock and a cut keep what holds.
-use Rattle.std.proofs.Common.{◌≡◌, ◌⊎◌, inl, inr, ℕ, suc, ◌+◌, ◌-◌, ◌<◌, ◌^◌, length, get_or, set, replicate, Some, refl, sym, ap, ◌∙◌, subst, arith, length-set}
+use Rattle.std.proofs.Common.{◌≡◌, ◌⊎◌, inl, inr, ℕ, suc, ◌+◌, ◌-◌, ◌<◌, ◌^◌, List, length, get_or, set, replicate, Some, refl, sym, ap, ◌∙◌, subst, arith, length-set}
 use Rattle.std.proofs.lemmas.Bool.{cases_lt}
 use Rattle.std.proofs.lemmas.List.{length-replicate, get_or-replicate, get_or_past}
+use Rattle.ink_base.specs.declared.entry.Entry.{Entry}
 use Rattle.ink_base.specs.declared.entry.Entry.TheVariants.{Tick}
 use Rattle.fram_words.specs.Places.{Clock, Memory, perform, Add}
 use Rattle.fram_words.specs.Shape.{memory_of}
@@ -15,7 +16,9 @@ use Rattle.source_laws.specs.Kept.{Kept}
 use Rattle.source_laws.specs.Steps as steps
 use Rattle.source_laws.proofs.Steps.{kept_step}
 use Rattle.never_cut.specs.declared.model.Model.{Model}
-use Rattle.never_cut.specs.Journal.{moved, noted}
+use Rattle.never_cut.specs.Journal.{after, moved, noted}
+use Rattle.never_cut.specs.State.{open_model}
+use Rattle.never_cut.proofs.Journals.{after_from-noted}
 use Rattle.never_cut.specs.Stands.{StandsPrivate}
 use Rattle.never_cut.specs.Steps.{Background}
 use Rattle.never_cut.specs.Actors.{SamePrivate, IsPrivate}
@@ -100,11 +103,24 @@ first_rows n i =
       | inr past ↦ get_or_past (replicate n first_row) i first_row (rw (length-replicate n first_row) past)
     ]
 
+-- the charge that begins notes its tick
+cut_journal : (s : Setup) (count : ℕ) (b : Board) (off : ℕ) → Holds s count b → b.begun < count → journal (cut s b off) ≡ noted (journal b) (Some (Tick off))
+cut_journal s count b off h left =
+    let lt : b.begun < length b.charges = rw h.size.charges_count left in
+    let one_more : suc b.begun ≡ b.begun + 1 = omega arith in
+    subst (λ n. journal_of (set b.charges b.begun (begun off (charge_of b.charges b.begun))) n ≡ noted (journal b) (Some (Tick off))) one_more
+    (noted_last b.charges b.begun (begun off (charge_of b.charges b.begun)) (Some (Tick off)) lt refl
+    ∙ ap (λ l. noted l (Some (Tick off))) (fresh b.charges b.begun (h.size.later b.begun (omega arith))))
+
+-- a cut commits nothing
+pub cut_commits : (s : Setup) (count : ℕ) (b : Board) (off : ℕ) → Holds s count b → b.begun < count → (state s (cut s b off)).commits ≡ (state s b).commits
+cut_commits s count b off h left =
+    ap (λ (l : List Entry). (after s.program s.readings l).commits) (cut_journal s count b off h left)
+    ∙ ap (λ (m : Model). m.commits) (after_from-noted s.program s.readings (open_model s.program) (journal b) (Some (Tick off)))
+
 pub cut_goes : (s : Setup) (count : ℕ) (b : Board) (off : ℕ) → IsSetup s → Holds s count b → b.begun < count → (state s b).clock + off < 2 ^ 47 → Goes s count b (cut s b off) off
 cut_goes s count b off g h left room =
     let words = words_ticked s count b off g h room (cut s b off) refl in
-    let lt : b.begun < length b.charges = rw h.size.charges_count left in
-    let one_more : suc b.begun ≡ b.begun + 1 = omega arith in
     goes_on s count b (cut s b off) (Some (Tick off)) off h
     (record {
       words = performed_length (clock_access s off) b.words ∙ h.size.words;
@@ -113,9 +129,7 @@ cut_goes s count b off g h left room =
       begun = omega arith;
       later = λ k le. ap (λ (c : Charged). c.entries) (others_stay b.charges b.begun k (begun off (charge_of b.charges b.begun)) (λ e. absurd (omega arith))) ∙ h.size.later k (omega arith);
     })
-    (subst (λ n. journal_of (set b.charges b.begun (begun off (charge_of b.charges b.begun))) n ≡ noted (journal b) (Some (Tick off))) one_more
-    (noted_last b.charges b.begun (begun off (charge_of b.charges b.begun)) (Some (Tick off)) lt refl
-    ∙ ap (λ l. noted l (Some (Tick off))) (fresh b.charges b.begun (h.size.later b.begun (omega arith)))))
+    (cut_journal s count b off h left)
     room
     (subst (λ (n : Memory). StandsPrivate n s.program (next_state s count b off g h room)) (sym words) (private_ticked s count b off g h room))
     (ap (λ (n : Memory). n Clock) words ∙ clock_ticked s count b off g h room)

@@ -29,10 +29,10 @@ use Rattle.kernel_core.specs.Record.{Charged, not_begun, charge_of}
 use Rattle.kernel_core.specs.Board.{Setup, Board, shape, sides, row_of, moved_by, first_board}
 use Rattle.kernel_core.specs.Views.{queue_in, source_in, seen}
 use Rattle.kernel_core.specs.Holds.{IsSetup, memory, HasSize, Holds}
-use Rattle.kernel_core.specs.Moves.{cost, EveryPrefixStands}
+use Rattle.kernel_core.specs.Moves.{EveryPrefixStands}
 use Rattle.kernel_core.proofs.Sides.{places_same, shared_of}
 use Rattle.kernel_core.proofs.Cuts.{first_rows}
-use Rattle.kernel_core.proofs.Runs.{moves_hold, moves_taken, cost_taken}
+use Rattle.kernel_core.proofs.Runs.{moves_hold, moves_taken, ticks_taken, turns_taken}
 use Rattle.kernel_core.proofs.Standing.{board_stands}
 
 -- the words of a thread's pages
@@ -272,9 +272,11 @@ first_holds s words charges g image =
 
 -- after every move of every list
 pub every_prefix : EveryPrefixStands
-every_prefix s words charges moves g image are fits n =
-    let few : cost (take n moves) ≤ cost moves = cost_taken n moves in
+every_prefix s words charges moves g image are clock stamps n =
     let board : Board = first_board s words charges in
     board_stands s charges (moved_by s board (take n moves)) g
     (moves_hold s charges board (take n moves) g (first_holds s words charges g image) (moves_taken s charges 0 n moves are)
-    (record { clock = omega arith; commits = omega arith }))
+    (record {
+      clock = let few = ticks_taken n moves in omega arith;
+      commits = let few = turns_taken n moves in omega arith;
+    }))

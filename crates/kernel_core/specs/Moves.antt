@@ -1,4 +1,4 @@
--- Which cuts and turns a board can make, and what they take of the time and accesses that are left.
+-- Which cuts and turns a board can make, and what they take of the clock's and the stamps' range.
 use Rattle.std.specs.Prelude.{ℕ, ◌+◌, ◌^◌, ◌<◌, List, [], ◌∷◌, length, take}
 use Rattle.ink_base.specs.declared.actor.Actor.{Actor}
 use Rattle.ink_base.specs.declared.actor.Actor.TheVariants as actors
@@ -19,22 +19,31 @@ AreMoves s charges begun [] = Unit {0}
 AreMoves s charges begun (Cut off ∷ moves) = (begun < charges) × AreMoves s charges (begun + 1) moves
 AreMoves s charges begun (Turn actor ∷ moves) = (0 < begun) × IsActor s actor × AreMoves s charges begun moves
 
--- the ticks of the cuts, and one access for each turn
-abbrev pub cost_of : Move → ℕ
-cost_of (Cut off) = off
-cost_of (Turn actor) = 1
+-- by how many ticks a move puts the clock on at most: those that went by in the dark, and one a turn
+abbrev pub ticks_of : Move → ℕ
+ticks_of (Cut off) = off
+ticks_of (Turn actor) = 1
 
-abbrev pub cost : List Move → ℕ
-cost [] = 0
-cost (m ∷ moves) = cost_of m + cost moves
+abbrev pub ticks : List Move → ℕ
+ticks [] = 0
+ticks (m ∷ moves) = ticks_of m + ticks moves
+
+-- how many accesses a move makes at most, a cut's tick aside
+abbrev pub turns_of : Move → ℕ
+turns_of (Cut off) = 0
+turns_of (Turn actor) = 1
+
+abbrev pub turns : List Move → ℕ
+turns [] = 0
+turns (m ∷ moves) = turns_of m + turns moves
 
 -- clock and stamps fit their words to the end of what is left
-pub record IsInRange (m : Model) (left : ℕ) : Type 0 where
-  pub clock : m.clock + left < 2 ^ 47
-  pub commits : m.commits + left + 1 < 2 ^ 32
+pub record IsInRange (m : Model) (ticks turns : ℕ) : Type 0 where
+  pub clock : m.clock + ticks < 2 ^ 47
+  pub commits : m.commits + turns + 1 < 2 ^ 32
 
 -- Whatever order of turns and cuts is listed: after each of them the journal so far is legal, and the words stand for the never-cut kernel after it.
 abbrev pub EveryPrefixStands : Type 0
 EveryPrefixStands =
-    (s : Setup) (words : List ℕ) (charges : ℕ) (moves : List Move) → IsSetup s → IsFirstImage s.program words → AreMoves s charges 0 moves → cost moves + 1 < 2 ^ 32 →
+    (s : Setup) (words : List ℕ) (charges : ℕ) (moves : List Move) → IsSetup s → IsFirstImage s.program words → AreMoves s charges 0 moves → ticks moves < 2 ^ 47 → turns moves + 1 < 2 ^ 32 →
     (n : ℕ) → BoardStands s (moved_by s (first_board s words charges) (take n moves))
