@@ -12,4 +12,9 @@ pub mod Cuts
 pub mod Runs
 pub mod Standing
 pub mod Firsts
+pub mod CoreSources
+pub mod CoreSteps
+pub mod Stamps
+pub mod CoreCuts
+pub mod CoreJobs
 pub mod Settled

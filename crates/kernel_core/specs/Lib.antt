@@ -4,4 +4,9 @@ pub mod Board
 pub mod Views
 pub mod Holds
 pub mod Moves
+pub mod Core
+pub mod Fits
+pub mod Listed
+pub mod Made
+pub mod Recorded
 pub mod Settled

@@ -1,0 +1,196 @@
+-- A cut on the fields of a core.
+use Rattle.std.proofs.Common.{◌≡◌, ◌≢◌, inl, inr, ℕ, zero, suc, ◌+◌, ◌-◌, ◌*◌, ◌<◌, ◌≤◌, ◌^◌, List, [], ◌∷◌, ◌++◌, length, map, take, replicate, drop, get_or, set, slice_index, Some, refl, sym, ap, ◌∙◌, subst, arith, length-set, get_or-set_same, get_or-set_other}
+use Rattle.std.proofs.lemmas.Bool.{cases_eq, cases_lt}
+use Rattle.std.proofs.lemmas.List.{length-map, get_or_read, get_or_past, get_or-replicate, length-replicate}
+use Rattle.ink_base.specs.declared.entry.Entry.{Entry}
+use Rattle.fram_words.specs.Places as places
+use Rattle.fram_words.specs.Shape.{address}
+use Rattle.fram_words.specs.declared.access.Access.TheVariants as fram
+use Rattle.fram_words.specs.declared.layout.Layout.{Layout}
+use Rattle.fram_words.specs.Words.{performed}
+use Rattle.push_core.specs.Table.{first_row}
+use Rattle.push_core.specs.declared.pusher.Pusher.{Pusher}
+use Rattle.power_trace.specs.declared.charge.Charge.{Charge}
+use Rattle.power_trace.specs.Job.{JobParts, item_turns, charge_turns}
+use Rattle.kernel_core.specs.declared.kernel.Kernel.{Kernel}
+use Rattle.kernel_core.specs.Kernel.{first_kernel}
+use Rattle.kernel_core.specs.Record.{Charged, charge_of, not_begun, begun, journal_of}
+use Rattle.kernel_core.specs.Recorded.{Recorded}
+use Rattle.ink_base.specs.declared.entry.Entry.TheVariants.{Tick}
+use Rattle.never_cut.specs.declared.model.Model.{Model}
+use Rattle.never_cut.specs.Journal.{noted, after}
+use Rattle.never_cut.specs.State.{open_model}
+use Rattle.never_cut.proofs.Journals.{after_from-noted}
+use Rattle.kernel_core.specs.Board.{Setup, Board, shape, journal, cut}
+use Rattle.kernel_core.specs.Holds.{state}
+use Rattle.kernel_core.specs.Core.{IsCore, IsPusher, AreRecords, CanCount, StaysInRange, setup_of, charge_in, row_in, rebooted, none_recorded, no_pusher, no_charge, turns_in, turns_from}
+use Rattle.kernel_core.proofs.CoreJobs.{turns_split}
+use Rattle.kernel_core.proofs.Charges.{noted_last, fresh}
+use Rattle.kernel_core.proofs.Turns.{Goes}
+use Rattle.kernel_core.proofs.Cuts.{cut_goes}
+use Rattle.kernel_core.proofs.CoreSteps.{map-set, charge_at, clock_word, records_count}
+
+rows_lost : (ps : List Pusher) → map row_in (map rebooted ps) ≡ replicate (length ps) first_row
+rows_lost [] = refl
+rows_lost (p ∷ ps) = ap (λ l. first_row ∷ l) (rows_lost ps)
+
+ports_kept : (ps : List Pusher) (i : ℕ) → (get_or (map rebooted ps) i no_pusher).port ≡ (get_or ps i no_pusher).port
+ports_kept [] i = refl
+ports_kept (p ∷ ps) zero = refl
+ports_kept (p ∷ ps) (suc i) = ports_kept ps i
+
+-- the machines while they lose their rows one after another
+pub lost_more : (xs : List Pusher) (i : ℕ) → i < length xs →
+    set (map rebooted (take i xs) ++ drop i xs) i (rebooted (get_or (map rebooted (take i xs) ++ drop i xs) i no_pusher)) ≡ map rebooted (take (i + 1) xs) ++ drop (i + 1) xs
+lost_more xs i lt = let e : suc i ≡ i + 1 = omega arith in subst (λ n. set (map rebooted (take i xs) ++ drop i xs) i (rebooted (get_or (map rebooted (take i xs) ++ drop i xs) i no_pusher)) ≡ map rebooted (take n xs) ++ drop n xs) e (one_more xs i lt)
+  where
+    one_more : (xs : List Pusher) (i : ℕ) → i < length xs →
+        set (map rebooted (take i xs) ++ drop i xs) i (rebooted (get_or (map rebooted (take i xs) ++ drop i xs) i no_pusher)) ≡ map rebooted (take (suc i) xs) ++ drop (suc i) xs
+    one_more [] i lt = absurd (omega arith)
+    one_more (x ∷ xs) zero lt = refl
+    one_more (x ∷ xs) (suc i) lt = ap (λ l. rebooted x ∷ l) (one_more xs i (omega arith))
+
+pub lost_all : (xs : List Pusher) (i : ℕ) → length xs ≤ i → map rebooted (take i xs) ++ drop i xs ≡ map rebooted xs
+lost_all [] zero le = refl
+lost_all [] (suc i) le = refl
+lost_all (x ∷ xs) zero le = absurd (omega arith)
+lost_all (x ∷ xs) (suc i) le = ap (λ l. rebooted x ∷ l) (lost_all xs i (omega arith))
+
+pub taken_back : (n : ℕ) (xs ys : List Pusher) → n ≡ length xs → take n (xs ++ ys) ≡ xs
+taken_back n xs ys e = ap (λ k. take k (xs ++ ys)) e ∙ back xs ys
+  where
+    back : (xs ys : List Pusher) → take (length xs) (xs ++ ys) ≡ xs
+    back [] ys = refl
+    back (x ∷ xs) ys = ap (λ l. x ∷ l) (back xs ys)
+
+pub nothing_counted : (n i : ℕ) → slice_index (replicate n 0) i ≡ 0
+nothing_counted n i =
+    elim (cases_lt i n) [
+      | inl lt ↦ get_or-replicate n i 0 0 lt
+      | inr past ↦ get_or_past (replicate n 0) i 0 (let long : length (replicate n 0) ≡ n = length-replicate {A = ℕ} n 0 in omega arith)
+    ]
+
+module _ (job : JobParts) (l : Layout) (b : Board) (room : ℕ) (ps : List Pusher) (records : List Recorded) (h : IsCore job l b room ps records) (more : b.begun < length job.charges) (off : ℕ) (small : off < 2 ^ 32) where
+  clock_at : l.clock ≡ address (shape (setup_of job)) places.Clock
+  clock_at = h.layout_is.addresses places.Clock tt
+
+  pub cut_fits : slice_index b.words l.clock + off < 2 ^ 64
+  cut_fits = let w = clock_word job l b room ps records h in let e = h.range.clock in omega arith
+
+  clock_room : (state (setup_of job) b).clock + off < 2 ^ 47
+  clock_room = let e = h.range.clock in omega arith
+
+  -- the record of the charge that begins, as a call on an element of the vector gives it
+  pub at_next : (x : Recorded) → x ≡ get_or records b.begun x → x ≡ get_or records b.begun none_recorded
+  at_next x is = get_or_read records b.begun x (let c = records_count job l b room ps records h in omega arith) is none_recorded
+
+  pub next_spare : (x : Recorded) → x ≡ get_or records b.begun x → 0 < x.spare
+  next_spare x is = subst (λ (z : Recorded). 0 < z.spare) (sym (at_next x is)) (let e = h.records_are.later b.begun (omega arith) more in omega arith)
+
+  -- the fields after the cut
+  abbrev After : List ℕ → Recorded → Board
+  After words x = record { words = words; kernel = first_kernel; rows = map row_in (map rebooted ps); charges = map charge_in (set records b.begun x); begun = b.begun + 1 }
+
+  rows_are : map row_in (map rebooted ps) ≡ replicate (length job.program.sources) first_row
+  rows_are = rows_lost ps ∙ ap (λ n. replicate n first_row) (sym (ap length h.rows ∙ length-map ps row_in) ∙ h.holds.size.rows)
+
+  pub cut_is : (words : List ℕ) (x : Recorded) → words ≡ performed (fram.Add l.clock off) b.words → x.charge ≡ begun off (get_or records b.begun none_recorded).charge → After words x ≡ cut (setup_of job) b off
+  cut_is words x made counts =
+      let charges : map charge_in (set records b.begun x) ≡ set b.charges b.begun (begun off (charge_of b.charges b.begun)) =
+      map-set records b.begun x
+      ∙ (ap (λ z. set (map charge_in records) b.begun z) (counts ∙ ap (λ z. begun off z) (sym (charge_at records b.begun)))
+      ∙ ap (λ z. set z b.begun (begun off (charge_of z b.begun))) (sym h.charges)) in
+      λ i. record {
+        words = (made ∙ ap (λ n. performed (fram.Add n off) b.words) clock_at) i;
+        kernel = first_kernel;
+        rows = rows_are i;
+        charges = charges i;
+        begun = b.begun + 1;
+      }
+
+  -- ticks are no commits
+  same_commits : (state (setup_of job) (cut (setup_of job) b off)).commits ≡ (state (setup_of job) b).commits
+  same_commits =
+      let lt : b.begun < length b.charges = let e = h.holds.size.charges_count in omega arith in
+      let one_more : suc b.begun ≡ b.begun + 1 = omega arith in
+      let journal_is : journal (cut (setup_of job) b off) ≡ noted (journal b) (Some (Tick off)) =
+      subst (λ n. journal_of (set b.charges b.begun (begun off (charge_of b.charges b.begun))) n ≡ noted (journal b) (Some (Tick off))) one_more
+      (noted_last b.charges b.begun (begun off (charge_of b.charges b.begun)) (Some (Tick off)) lt refl
+      ∙ ap (λ l. noted l (Some (Tick off))) (fresh b.charges b.begun (h.holds.size.later b.begun (omega arith)))) in
+      ap (λ (m : Model). m.commits) (ap (λ l. after job.program job.readings l) journal_is ∙ after_from-noted job.program job.readings (open_model job.program) (journal b) (Some (Tick off)))
+
+  -- the ranges after the cut
+  range_after : (next : Board) → next.begun ≡ b.begun + 1 → next ≡ cut (setup_of job) b off → Goes (setup_of job) (length job.charges) b next off →
+      StaysInRange job (state (setup_of job) next) next.begun (turns_in job b.begun)
+  range_after next same is go =
+      let commits : (state (setup_of job) next).commits ≡ (state (setup_of job) b).commits = ap (λ z. (state (setup_of job) z).commits) is ∙ same_commits in
+      let split : turns_from job b.begun ≡ turns_in job b.begun + turns_from job (b.begun + 1) = turns_split job b.begun more in
+      subst (λ n. StaysInRange job (state (setup_of job) next) n (turns_in job b.begun)) (sym same)
+      (record {
+        clock = let e = h.range.clock in let c = go.clock in omega arith;
+        commits = let e = h.range.commits in omega arith;
+      })
+
+  -- the record of the charge that has begun
+  begun_charge : (x : Recorded) → x.charge ≡ begun off (get_or records b.begun none_recorded).charge → x.charge ≡ begun off (not_begun (length job.program.sources))
+  begun_charge x counts = counts ∙ ap (λ z. begun off z) (h.records_are.unused b.begun (omega arith) more)
+
+  records_after : (x : Recorded) → x.charge ≡ begun off (get_or records b.begun none_recorded).charge → (get_or records b.begun none_recorded).spare ≤ x.spare + 1 → AreRecords job (b.begun + 1) (turns_in job b.begun) (set records b.begun x)
+  records_after x counts spare =
+      let r = h.records_are in
+      let few : turns_in job b.begun < 2 ^ 32 = let split = turns_split job b.begun more in let e = h.range.commits in omega arith in
+      let index : b.begun + 1 - 1 ≡ b.begun = omega arith in
+      record {
+        counts = subst (λ n. CanCount (turns_in job b.begun) (get_or (set records b.begun x) n none_recorded).charge) (sym index)
+            (subst (λ (z : Recorded). CanCount (turns_in job b.begun) z.charge) (sym here)
+            (subst (λ z. CanCount (turns_in job b.begun) z) (sym (begun_charge x counts))
+            (record { kernel = omega arith; sources = λ i. let none = nothing_counted (length job.program.sources) i in omega arith; ticks = omega arith })));
+        has_room = subst (λ n. turns_in job b.begun ≤ (get_or (set records b.begun x) n none_recorded).spare) (sym index)
+            (subst (λ (z : Recorded). turns_in job b.begun ≤ z.spare) (sym here) (let e = r.later b.begun (omega arith) more in omega arith));
+        later = λ k le known. subst (λ (z : Recorded). turns_in job k < z.spare) (sym (elsewhere k (λ e. absurd (omega arith)))) (r.later k (omega arith) known);
+        unused = λ k le known. ap (λ (z : Recorded). z.charge) (elsewhere k (λ e. absurd (omega arith))) ∙ r.unused k (omega arith) known;
+        steps = λ k known. elim (cases_eq k b.begun) [
+          | inl e ↦ ap (λ n. length (get_or (set records b.begun x) n none_recorded).charge.source_steps) e
+              ∙ (ap (λ (z : Recorded). length z.charge.source_steps) here ∙ (ap (λ (z : Charged). length z.source_steps) (begun_charge x counts) ∙ length-replicate {A = ℕ} (length job.program.sources) 0))
+          | inr ne ↦ ap (λ (z : Recorded). length z.charge.source_steps) (elsewhere k ne) ∙ r.steps k known
+        ];
+      }
+    where
+      here : get_or (set records b.begun x) b.begun none_recorded ≡ x
+      here = get_or-set_same records b.begun x none_recorded (let c = records_count job l b room ps records h in omega arith)
+
+      elsewhere : (k : ℕ) → k ≢ b.begun → get_or (set records b.begun x) k none_recorded ≡ get_or records k none_recorded
+      elsewhere k ne = get_or-set_other records b.begun k x none_recorded ne
+
+  pub cut_core : (words : List ℕ) (x : Recorded) → words ≡ performed (fram.Add l.clock off) b.words → x.charge ≡ begun off (get_or records b.begun none_recorded).charge → (get_or records b.begun none_recorded).spare ≤ x.spare + 1 →
+      IsCore job l (After words x) (turns_in job b.begun) (map rebooted ps) (set records b.begun x)
+  cut_core words x made counts spare =
+      let go = subst (λ z. Goes (setup_of job) (length job.charges) b z off) (sym (cut_is words x made counts)) (cut_goes (setup_of job) (length job.charges) b off h.is_setup h.holds more clock_room) in
+      record {
+        is_setup = h.is_setup;
+        layout_is = h.layout_is;
+        rows = refl;
+        machines = λ i lt. record { port = ports_kept ps i ∙ (h.machines i lt).port; right = (h.machines i lt).right };
+        holds = go.holds;
+        range = range_after (After words x) refl (cut_is words x made counts) go;
+        charges = refl;
+        records_are = records_after x counts spare;
+      }
+
+  -- the same of fields that equal those
+  abbrev Made : List ℕ → Kernel → List Pusher → Recorded → Board
+  Made words k qs x = record { words = words; kernel = k; rows = map row_in qs; charges = map charge_in (set records b.begun x); begun = b.begun + 1 }
+
+  made_is : (words : List ℕ) (k : Kernel) (qs : List Pusher) (x : Recorded) → k ≡ first_kernel → qs ≡ map rebooted ps → Made words k qs x ≡ After words x
+  made_is words k qs x kernel lost = λ i. record { words = words; kernel = kernel i; rows = map row_in (lost i); charges = map charge_in (set records b.begun x); begun = b.begun + 1 }
+
+  pub board_of : (words : List ℕ) (k : Kernel) (qs : List Pusher) (x : Recorded) → words ≡ performed (fram.Add l.clock off) b.words → k ≡ first_kernel → qs ≡ map rebooted ps →
+      x.charge ≡ begun off (get_or records b.begun none_recorded).charge → Made words k qs x ≡ cut (setup_of job) b off
+  board_of words k qs x made kernel lost counts = made_is words k qs x kernel lost ∙ cut_is words x made counts
+
+  pub core_of : (words : List ℕ) (k : Kernel) (qs : List Pusher) (x : Recorded) (turns : ℕ) → words ≡ performed (fram.Add l.clock off) b.words → k ≡ first_kernel → qs ≡ map rebooted ps →
+      x.charge ≡ begun off (get_or records b.begun none_recorded).charge → (get_or records b.begun none_recorded).spare ≤ x.spare + 1 → turns ≡ turns_in job b.begun →
+      IsCore job l (Made words k qs x) turns qs (set records b.begun x)
+  core_of words k qs x turns made kernel lost counts spare count =
+      let all = cut_core words x made counts spare in
+      subst (λ (z : Kernel × List Pusher × ℕ). IsCore job l (Made words z.0 z.1 x) z.2 z.1 (set records b.begun x)) (λ i. (sym kernel i, sym lost i, sym count i)) all

@@ -1,0 +1,36 @@
+-- The turns that a charge lists.
+use Rattle.std.proofs.Common.{◌≡◌, ℕ, zero, suc, ◌+◌, ◌<◌, ◌≤◌, List, [], ◌∷◌, length, take, drop, get_or, sum_by, refl, sym, ap, ◌∙◌, subst, arith}
+use Rattle.std.proofs.lemmas.List.{get_or_read}
+use Rattle.std.proofs.lemmas.List.Sums.{sum_by-take-drop, sum_by-drop_more}
+use Rattle.ink_base.specs.declared.actor.Actor.TheVariants as actors
+use Rattle.power_trace.specs.declared.charge.Charge.{Charge}
+use Rattle.power_trace.specs.declared.item.Item.{Item}
+use Rattle.power_trace.specs.Job.{JobParts, IsJob, item_turns, charge_turns}
+use Rattle.kernel_core.specs.Core.{no_charge, turns_in, turns_from}
+
+abbrev pub no_item : Item
+no_item = record { actor = actors.Kernel; count = 0 }
+
+-- no more turns stand in the charges from one on than in all
+pub turns_few : (job : JobParts) (k : ℕ) → IsJob job → turns_from job k ≤ 4194304
+turns_few job k is = let all = sum_by-take-drop (λ (c : Charge). item_turns c.items) job.charges k in let few = is.charges.turns in omega arith
+
+pub turns_split : (job : JobParts) (k : ℕ) → k < length job.charges → turns_from job k ≡ turns_in job k + turns_from job (k + 1)
+turns_split job k lt = sum_by-drop_more (λ (c : Charge). item_turns c.items) job.charges k no_charge lt
+
+pub turns_small : (job : JobParts) (k : ℕ) → IsJob job → k < length job.charges → turns_in job k ≤ 4194304
+turns_small job k is lt = let all = turns_few job k is in let split = turns_split job k lt in omega arith
+
+-- a charge as a call on an element gives it
+pub charge_is : (job : JobParts) (k : ℕ) (c : Charge) → k < length job.charges → c ≡ get_or job.charges k c → item_turns c.items ≡ turns_in job k
+charge_is job k c lt is = ap (λ (z : Charge). item_turns z.items) (get_or_read job.charges k c lt is no_charge)
+
+-- all elements, where the index is at the end
+taken : {X : Type 0} (xs : List X) (n : ℕ) → length xs ≤ n → take n xs ≡ xs
+taken [] zero le = refl
+taken [] (suc n) le = refl
+taken (x ∷ xs) zero le = absurd (omega arith)
+taken (x ∷ xs) (suc n) le = ap (λ l. x ∷ l) (taken xs n (omega arith))
+
+pub taken_all : {X : Type 0} (f : X → ℕ) (xs : List X) (n : ℕ) → length xs ≤ n → sum_by f (take n xs) ≡ sum_by f xs
+taken_all f xs n le = ap (λ l. sum_by f l) (taken xs n le)

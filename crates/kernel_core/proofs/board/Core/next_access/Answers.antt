@@ -1,0 +1,24 @@
+use Rattle.std.proofs.Common.{◌≡◌, ℕ, ◌+◌, ◌-◌, ◌<◌, ◌≤◌, ◌^◌, List, length, refl, sym, ap, ◌∙◌, subst, arith}
+use Rattle.push_core.specs.Table.{IsFew, IsLeft, IsRowFor, IsAnswer, take_of, want_of}
+use Rattle.source_laws.specs.Rows.{port_of}
+use Rattle.never_cut.specs.Entries.{readings_of}
+use Rattle.kernel_core.specs.Record.{with_source}
+use Rattle.kernel_core.specs.Recorded.{Recorded}
+use Rattle.kernel_core.specs.Board.{sides, row_of, source_access, source_made}
+use Rattle.kernel_core.specs.Made.{access_made}
+use Rattle.kernel_core.specs.Core.{View, setup_of}
+use Rattle.kernel_core.proofs.CoreSteps.{at_hand, has_spare, source_counts, source_known}
+use Rattle.kernel_core.proofs.CoreSources.{few, fits, left_in, source_within, source_adds_nothing, answer_in_range, source_made_is, access_made_is, source_made_core, wanted_is}
+use Rattle.kernel_core.proofs.board.Core.next_access.Goals as goal
+
+pub want-requires-clause-few : goal.want-requires-clause-few
+want-requires-clause-few c = subst (λ (z : List ℕ). IsFew z) (sym c.readings_at-readings.ensures) (few _ _ _ _ _ _ c.self.invariant.1 c.args.source.0 (subst (λ (z : View). c.args.source.0 < length z.job.program.sources) (sym c.self.view_is) c.requires.known))
+
+pub want-requires-clause-row : goal.want-requires-clause-row
+want-requires-clause-row c = subst (λ (z : List ℕ). IsRowFor c.index.result.now.port (length z) c.index.result.now.row) (sym c.readings_at-readings.ensures) (fits _ _ _ _ _ _ c.self.invariant.1 c.args.source.0 (subst (λ (z : View). c.args.source.0 < length z.job.program.sources) (sym c.self.view_is) c.requires.known) c.index.result.now c.index.ensures)
+
+pub returns : goal.returns
+returns c =
+    subst (λ (z : List ℕ). c.want.result ≡ want_of c.index.result.now.port z c.index.result.now.row) c.readings_at-readings.ensures c.want.ensures.access
+    ∙ (wanted_is _ _ _ _ _ _ c.self.invariant.1 c.args.source.0 (subst (λ (z : View). c.args.source.0 < length z.job.program.sources) (sym c.self.view_is) c.requires.known) c.index.result.now c.index.ensures
+    ∙ ap (λ (z : View). want_of (port_of (sides (setup_of z.job)) c.args.source.0) (readings_of z.job.readings c.args.source.0) (row_of z.board c.args.source.0)) c.self.view_is)

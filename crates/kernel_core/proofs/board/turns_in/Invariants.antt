@@ -1,0 +1,6 @@
+use Rattle.std.proofs.Common.{◌≡◌, ℕ, take}
+use Rattle.power_trace.specs.Job.{item_turns}
+use Rattle.kernel_core.proofs.board.turns_in.Given as goal
+
+abbrev pub invariant-loop-item : goal.invariant-loop-item
+invariant-loop-item l = l.turns ≡ item_turns (take l.item-index l.item-items)

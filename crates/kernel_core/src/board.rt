@@ -1,0 +1,279 @@
+//! The board of a job and its turns.
+ghost use Rattle.std.specs.Prelude.{◌≡◌, ◌+◌, ◌<◌, ◌≤◌, length, map, Some};
+ghost use Rattle.ink_layout.specs.Points.{entry_of_point};
+ghost use Rattle.push_core.specs.Table.{IsLeft, want_of};
+ghost use Rattle.source_laws.specs.Rows.{port_of};
+ghost use Rattle.never_cut.specs.Entries.{readings_of};
+ghost use Rattle.kernel_core.specs.Board.{turn, cut, kernel_turn, clock_turn, source_made, source_turn, source_access, row_of, sides, entry_of_source};
+ghost use Rattle.kernel_core.specs.Holds.{BoardStands};
+ghost use Rattle.kernel_core.specs.Moves.{IsActor};
+ghost use Rattle.kernel_core.specs.Made.{made_by, kernel_made, access_made, source_makes, clock_made, nothing_made};
+ghost use Rattle.kernel_core.specs.Core.{View, IsCore, setup_of, row_in, charge_in, rebooted, turns_in};
+
+use crate::kernel::Kernel;
+use crate::made::Made;
+use crate::record::ChargeRecord;
+use fram_words::{Access, Fram};
+use ink_base::{Actor, Entry, SourceId};
+use ink_layout::{KernelPoint, Plan};
+use power_trace::Job;
+use push_core::{Point, Pusher, Row};
+use std::marker::Model;
+
+/// A job's board in its run: the words, the kernel, the sources and the clock, and what each charge leaves behind. Contracts see the
+/// job, the board, and for how many turns of the charge at hand there is room.
+#[derive(Debug, Drop)]
+pub struct Core {
+    job: Job,
+    plan: Plan,
+    fram: Fram,
+    kernel: Kernel,
+    pushers: Vec<Pusher>,
+    charges: Vec<ChargeRecord>,
+    begun: usize,
+    room: u64,
+}
+
+impl Model for Core {
+    ghost Value = { View };
+
+    ghost view = { λ c. record { job = c.job; board = record { words = c.fram; kernel = c.kernel; rows = map row_in c.pushers.items; charges = map charge_in c.charges.items; begun = c.begun }; room = c.room } };
+
+    ghost invariant = { λ c. (c.plan.accepted ≡ c.job.program) × IsCore c.job c.plan.layout (record { words = c.fram; kernel = c.kernel; rows = map row_in c.pushers.items; charges = map charge_in c.charges.items; begun = c.begun }) c.room c.pushers.items c.charges.items };
+}
+
+impl Core {
+    /// The words of the board.
+    pub fn words(&self) -> &Fram
+        ensures { result.now ≡ self.now.board.words }
+    {
+        &self.fram
+    }
+
+    /// The next access of the actor, with the word that it finds and the entry that it adds to the journal. A source whose boot is over
+    /// and whose readings are all settled makes none, and nothing changes then. Only an access takes of the room for turns.
+    pub fn step(&mut self, actor: Actor) -> Made
+        requires known { IsActor (setup_of self.old.job) actor }
+        requires begun { 0 < self.old.board.begun }
+        requires room { 0 < self.old.room }
+        ensures board { self.new.board ≡ turn (setup_of self.old.job) self.old.board actor }
+        ensures made { result ≡ made_by (setup_of self.old.job) self.old.board actor }
+        ensures stands { BoardStands (setup_of self.new.job) self.new.board }
+        ensures job { self.new.job ≡ self.old.job }
+        ensures room { self.old.room ≤ self.new.room + 1 }
+    {
+        let made = self.turn(actor);
+        self.stands();
+        made
+    }
+
+    /// All registers are lost, CLOCK grows by the ticks that went by in the dark, and the next charge begins, with their entry and with
+    /// room for the turns that the job lists for it.
+    pub fn cut(&mut self, off: u32)
+        requires { self.old.board.begun < length self.old.job.charges }
+        ensures board { self.new.board ≡ cut (setup_of self.old.job) self.old.board off }
+        ensures stands { BoardStands (setup_of self.new.job) self.new.board }
+        ensures job { self.new.job ≡ self.old.job }
+        ensures room { self.new.room ≡ turns_in self.old.job self.old.board.begun }
+    {
+        self.begin_charge(off);
+        self.stands();
+    }
+
+    fn begin_charge(&mut self, off: u32)
+        requires { self.old.board.begun < length self.old.job.charges }
+        ensures board { self.new.board ≡ cut (setup_of self.old.job) self.old.board off }
+        ensures job { self.new.job ≡ self.old.job }
+        ensures room { self.new.room ≡ turns_in self.old.job self.old.board.begun }
+    {
+        let access = Access::Add {
+            addr: self.plan.layout.clock,
+            by: off as u64,
+        };
+        self.fram.perform(access);
+        self.kernel = Kernel::boot();
+        lose_rows(&mut self.pushers);
+        self.charges[self.begun].begin(off);
+        self.room = turns_in(&self.job, self.begun);
+        self.begun += 1;
+    }
+
+    fn turn(&mut self, actor: Actor) -> Made
+        requires known { IsActor (setup_of self.old.job) actor }
+        requires begun { 0 < self.old.board.begun }
+        requires room { 0 < self.old.room }
+        ensures board { self.new.board ≡ turn (setup_of self.old.job) self.old.board actor }
+        ensures made { result ≡ made_by (setup_of self.old.job) self.old.board actor }
+        ensures job { self.new.job ≡ self.old.job }
+        ensures room { self.old.room ≤ self.new.room + 1 }
+    {
+        match actor {
+            Actor::Kernel => self.kernel_turn(),
+            Actor::Source(source) => self.source_turn(source),
+            Actor::Clock => self.clock_turn(),
+        }
+    }
+
+    // The journal is legal, and the words stand for the never-cut kernel after it.
+    fn stands(&self)
+        ensures { BoardStands (setup_of self.now.job) self.now.board }
+    {
+        let _begun = self.begun;
+    }
+
+    fn kernel_turn(&mut self) -> Made
+        requires begun { 0 < self.old.board.begun }
+        requires room { 0 < self.old.room }
+        ensures board { self.new.board ≡ kernel_turn (setup_of self.old.job) self.old.board }
+        ensures made { result ≡ kernel_made (setup_of self.old.job) self.old.board }
+        ensures job { self.new.job ≡ self.old.job }
+        ensures room { self.old.room ≤ self.new.room + 1 }
+    {
+        let access = self.kernel.want(&self.plan);
+        let word = self.fram.perform(access);
+        let point = self.kernel.take(&self.plan, word);
+        let entry = entry_of_point(point);
+        self.charges[self.begun - 1].note_kernel(entry);
+        self.room -= 1;
+        Made {
+            access: Some(access),
+            word,
+            entry,
+        }
+    }
+
+    fn clock_turn(&mut self) -> Made
+        requires begun { 0 < self.old.board.begun }
+        requires room { 0 < self.old.room }
+        ensures board { self.new.board ≡ clock_turn (setup_of self.old.job) self.old.board }
+        ensures made { result ≡ clock_made (setup_of self.old.job) self.old.board }
+        ensures job { self.new.job ≡ self.old.job }
+        ensures room { self.old.room ≤ self.new.room + 1 }
+    {
+        let access = Access::Add {
+            addr: self.plan.layout.clock,
+            by: 1,
+        };
+        let word = self.fram.perform(access);
+        self.charges[self.begun - 1].note_tick();
+        self.room -= 1;
+        Made {
+            access: Some(access),
+            word,
+            entry: Some(Entry::Tick { by: 1 }),
+        }
+    }
+
+    fn source_turn(&mut self, source: SourceId) -> Made
+        requires known { source.0 < length self.old.job.program.sources }
+        requires begun { 0 < self.old.board.begun }
+        requires room { 0 < self.old.room }
+        ensures board { self.new.board ≡ source_turn (setup_of self.old.job) self.old.board source.0 }
+        ensures made { result ≡ source_makes (setup_of self.old.job) self.old.board source.0 }
+        ensures job { self.new.job ≡ self.old.job }
+        ensures room { self.old.room ≤ self.new.room + 1 }
+    {
+        match self.next_access(source) {
+            Some(access) => self.source_made(source, access),
+            None => nothing_made(),
+        }
+    }
+
+    // The access of a source's row; none where it has none left.
+    fn next_access(&self, source: SourceId) -> Option<Access>
+        requires known { source.0 < length self.now.job.program.sources }
+        ensures { result ≡ want_of (port_of (sides (setup_of self.now.job)) source.0) (readings_of self.now.job.readings source.0) (row_of self.now.board source.0) }
+    {
+        let readings = readings_at(&self.job, source);
+        self.pushers[source.0 as usize].want(readings)
+    }
+
+    fn source_made(&mut self, source: SourceId, access: Access) -> Made
+        requires known { source.0 < length self.old.job.program.sources }
+        requires begun { 0 < self.old.board.begun }
+        requires room { 0 < self.old.room }
+        requires has_left { IsLeft (length (readings_of self.old.job.readings source.0)) (row_of self.old.board source.0) }
+        requires access { access ≡ source_access (setup_of self.old.job) self.old.board source.0 }
+        ensures board { self.new.board ≡ source_made (setup_of self.old.job) self.old.board source.0 }
+        ensures made { result ≡ access_made (setup_of self.old.job) self.old.board source.0 }
+        ensures job { self.new.job ≡ self.old.job }
+        ensures room { self.old.room ≤ self.new.room + 1 }
+    {
+        let i = source.0 as usize;
+        let word = self.fram.perform(access);
+        let readings = readings_at(&self.job, source);
+        let point = self.pushers[i].take(readings, word);
+        let entry = entry_of_source(source, point);
+        self.charges[self.begun - 1].note_source(i, entry);
+        self.room -= 1;
+        Made {
+            access: Some(access),
+            word,
+            entry,
+        }
+    }
+}
+
+// Each source goes back to the first row of its table.
+fn lose_rows(pushers: &mut Vec<Pusher>)
+    ensures { pushers.new.items ≡ map rebooted pushers.old.items }
+{
+    for pusher in pushers.iter_mut() {
+        pusher.row = Row::first();
+    }
+}
+
+// The turns that a charge of the job lists.
+fn turns_in(job: &Job, charge: usize) -> u64
+    requires { charge < length job.now.charges }
+    ensures { result ≡ turns_in job.now charge }
+{
+    let mut turns = 0;
+    for item in job.charges()[charge].items.as_slice() {
+        turns += item.count as u64;
+    }
+    turns
+}
+
+// The readings of a source.
+fn readings_at(job: &Job, source: SourceId) -> &[u32]
+    requires { source.0 < length job.now.program.sources }
+    ensures { result.now ≡ readings_of job.now.readings source.0 }
+{
+    job.readings()[source.0 as usize].as_slice()
+}
+
+fn nothing_made() -> Made
+    ensures { result ≡ nothing_made }
+{
+    Made {
+        access: None,
+        word: 0,
+        entry: None,
+    }
+}
+
+// The entry that a point of the kernel stands for.
+fn entry_of_point(point: KernelPoint) -> Option<Entry>
+    ensures { result ≡ entry_of_point point }
+{
+    match point {
+        KernelPoint::Nothing => None,
+        KernelPoint::Scan => Some(Entry::Scan),
+        KernelPoint::Look(thread) => Some(Entry::Look { thread }),
+        KernelPoint::Commit(thread) => Some(Entry::Commit { thread }),
+        KernelPoint::Release(thread) => Some(Entry::Release { thread }),
+    }
+}
+
+// The entry that a point of a source stands for.
+fn entry_of_source(source: SourceId, point: Point) -> Option<Entry>
+    ensures { result ≡ entry_of_source source.0 point }
+{
+    match point {
+        Point::Nothing => None,
+        Point::Pushed => Some(Entry::Push { source }),
+        Point::Refused => Some(Entry::Refuse { source }),
+        Point::Skipped => Some(Entry::Skip { source }),
+    }
+}
