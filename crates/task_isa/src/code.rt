@@ -144,20 +144,23 @@ mod tests {
     use super::*;
     use std::test::Fail;
 
+    fn sum() -> Instr {
+        Instr::Add {
+            a: Reg::new(2),
+            b: Reg::new(2),
+            c: Reg::new(3),
+        }
+    }
+
     #[test]
     fn words_of_two_instructions(rt: HostRuntime) -> Result<(), Fail> {
         let seven = Instr::Li {
             a: Reg::new(1),
             i: 7,
         };
-        let sum = Instr::Add {
-            a: Reg::new(2),
-            b: Reg::new(2),
-            c: Reg::new(3),
-        };
         assert_eq!(rt; encode(seven), 0x0000_0007_0000_0101);
-        assert_eq!(rt; encode(sum), 0x0000_0000_0003_2203);
-        assert_eq!(rt; decode(0x0000_0000_0003_2203), Some(sum));
+        assert_eq!(rt; encode(sum()), 0x0000_0000_0003_2203);
+        assert_eq!(rt; decode(0x0000_0000_0003_2203), Some(sum()));
         Ok(())
     }
 
