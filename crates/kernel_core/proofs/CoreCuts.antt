@@ -1,8 +1,7 @@
 -- A cut on the fields of a core.
-use Rattle.std.proofs.Common.{◌≡◌, ◌≢◌, inl, inr, ℕ, zero, suc, ◌+◌, ◌-◌, ◌*◌, ◌<◌, ◌≤◌, ◌^◌, List, [], ◌∷◌, ◌++◌, length, map, take, replicate, drop, get_or, set, slice_index, Some, refl, sym, ap, ◌∙◌, subst, arith, length-set, get_or-set_same, get_or-set_other}
+use Rattle.std.proofs.Common.{◌≡◌, ◌≢◌, inl, inr, ℕ, zero, suc, ◌+◌, ◌-◌, ◌<◌, ◌≤◌, ◌^◌, List, [], ◌∷◌, ◌++◌, length, map, take, replicate, drop, get_or, set, slice_index, Some, refl, sym, ap, ◌∙◌, subst, arith, get_or-set_same, get_or-set_other}
 use Rattle.std.proofs.lemmas.Bool.{cases_eq, cases_lt}
 use Rattle.std.proofs.lemmas.List.{length-map, get_or_read, get_or_past, get_or-replicate, length-replicate}
-use Rattle.ink_base.specs.declared.entry.Entry.{Entry}
 use Rattle.fram_words.specs.Places as places
 use Rattle.fram_words.specs.Shape.{address}
 use Rattle.fram_words.specs.declared.access.Access.TheVariants as fram
@@ -10,8 +9,7 @@ use Rattle.fram_words.specs.declared.layout.Layout.{Layout}
 use Rattle.fram_words.specs.Words.{performed}
 use Rattle.push_core.specs.Table.{first_row}
 use Rattle.push_core.specs.declared.pusher.Pusher.{Pusher}
-use Rattle.power_trace.specs.declared.charge.Charge.{Charge}
-use Rattle.power_trace.specs.Job.{JobParts, item_turns, charge_turns}
+use Rattle.power_trace.specs.Job.{JobParts}
 use Rattle.kernel_core.specs.declared.kernel.Kernel.{Kernel}
 use Rattle.kernel_core.specs.Kernel.{first_kernel}
 use Rattle.kernel_core.specs.Record.{Charged, charge_of, not_begun, begun, journal_of}
@@ -21,9 +19,9 @@ use Rattle.never_cut.specs.declared.model.Model.{Model}
 use Rattle.never_cut.specs.Journal.{noted, after}
 use Rattle.never_cut.specs.State.{open_model}
 use Rattle.never_cut.proofs.Journals.{after_from-noted}
-use Rattle.kernel_core.specs.Board.{Setup, Board, shape, journal, cut}
+use Rattle.kernel_core.specs.Board.{Board, shape, journal, cut}
 use Rattle.kernel_core.specs.Holds.{state}
-use Rattle.kernel_core.specs.Core.{IsCore, IsPusher, AreRecords, CanCount, StaysInRange, setup_of, charge_in, row_in, rebooted, none_recorded, no_pusher, no_charge, turns_in, turns_from}
+use Rattle.kernel_core.specs.Core.{IsCore, AreRecords, CanCount, StaysInRange, setup_of, charge_in, row_in, rebooted, none_recorded, no_pusher, turns_in, turns_from}
 use Rattle.kernel_core.proofs.CoreJobs.{turns_split}
 use Rattle.kernel_core.proofs.Charges.{noted_last, fresh}
 use Rattle.kernel_core.proofs.Turns.{Goes}

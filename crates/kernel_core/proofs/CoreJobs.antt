@@ -1,15 +1,10 @@
 -- The turns that a charge lists.
-use Rattle.std.proofs.Common.{◌≡◌, ℕ, zero, suc, ◌+◌, ◌<◌, ◌≤◌, List, [], ◌∷◌, length, take, drop, get_or, sum_by, refl, sym, ap, ◌∙◌, subst, arith}
+use Rattle.std.proofs.Common.{◌≡◌, ℕ, zero, suc, ◌+◌, ◌<◌, ◌≤◌, List, [], ◌∷◌, length, take, get_or, sum_by, refl, ap, arith}
 use Rattle.std.proofs.lemmas.List.{get_or_read}
 use Rattle.std.proofs.lemmas.List.Sums.{sum_by-take-drop, sum_by-drop_more}
-use Rattle.ink_base.specs.declared.actor.Actor.TheVariants as actors
 use Rattle.power_trace.specs.declared.charge.Charge.{Charge}
-use Rattle.power_trace.specs.declared.item.Item.{Item}
-use Rattle.power_trace.specs.Job.{JobParts, IsJob, item_turns, charge_turns}
+use Rattle.power_trace.specs.Job.{JobParts, IsJob, item_turns}
 use Rattle.kernel_core.specs.Core.{no_charge, turns_in, turns_from}
-
-abbrev pub no_item : Item
-no_item = record { actor = actors.Kernel; count = 0 }
 
 -- no more turns stand in the charges from one on than in all
 pub turns_few : (job : JobParts) (k : ℕ) → IsJob job → turns_from job k ≤ 4194304
@@ -26,7 +21,7 @@ pub charge_is : (job : JobParts) (k : ℕ) (c : Charge) → k < length job.charg
 charge_is job k c lt is = ap (λ (z : Charge). item_turns z.items) (get_or_read job.charges k c lt is no_charge)
 
 -- all elements, where the index is at the end
-taken : {X : Type 0} (xs : List X) (n : ℕ) → length xs ≤ n → take n xs ≡ xs
+pub taken : {X : Type 0} (xs : List X) (n : ℕ) → length xs ≤ n → take n xs ≡ xs
 taken [] zero le = refl
 taken [] (suc n) le = refl
 taken (x ∷ xs) zero le = absurd (omega arith)

@@ -1,5 +1,5 @@
 -- A source's turn on the fields of a core.
-use Rattle.std.proofs.Common.{◌≡◌, ◌≢◌, inl, inr, ℕ, zero, suc, ◌+◌, ◌-◌, ◌<◌, ◌≤◌, ◌^◌, cond, List, [], ◌∷◌, length, map, get_or, set, slice_index, Option, Some, None, refl, sym, ap, ◌∙◌, subst, arith, length-set, get_or-set_same, get_or-set_other}
+use Rattle.std.proofs.Common.{◌≡◌, inl, inr, ℕ, zero, suc, ◌+◌, ◌-◌, ◌<◌, ◌≤◌, ◌^◌, cond, List, [], ◌∷◌, length, map, get_or, set, slice_index, Option, Some, refl, sym, ap, ◌∙◌, subst, arith, length-set, get_or-set_same, get_or-set_other}
 use Rattle.std.proofs.lemmas.Bool.{cases_eq, cases_lt}
 use Rattle.std.proofs.lemmas.List.{length-map, get_or_read, get_or_past}
 use Rattle.ink_base.specs.declared.entry.Entry.{Entry}
@@ -22,7 +22,7 @@ use Rattle.power_trace.specs.Job.{JobParts}
 use Rattle.source_laws.specs.Rows.{access, port_of}
 use Rattle.source_laws.proofs.Ports.{access_of-port}
 use Rattle.source_laws.proofs.Fits.{row_fits, answer_fits}
-use Rattle.kernel_core.specs.Record.{Charged, charge_of, with_source}
+use Rattle.kernel_core.specs.Record.{Charged, with_source}
 use Rattle.kernel_core.specs.Recorded.{Recorded}
 use Rattle.kernel_core.specs.Board.{Setup, Board, shape, sides, finds, charged, row_of, source_access, source_made, source_turn, entry_of_source}
 use Rattle.kernel_core.specs.Views.{seen}

@@ -1,13 +1,11 @@
 -- The turns of the kernel and the clock on the fields of a core.
-use Rattle.std.proofs.Common.{◌≡◌, ◌≢◌, inl, inr, ℕ, zero, suc, ◌+◌, ◌-◌, ◌*◌, ◌<◌, ◌≤◌, ◌^◌, List, [], ◌∷◌, length, map, get_or, set, slice_index, Option, Some, None, refl, sym, ap, ◌∙◌, subst, arith, length-set, get_or-set_same, get_or-set_other}
-use Rattle.std.proofs.lemmas.Bool.{cases_eq, cases_lt}
-use Rattle.std.proofs.lemmas.List.{length-map, get_or_past, get_or_read}
-use Rattle.ink_base.specs.declared.actor.Actor.{Actor}
-use Rattle.ink_base.specs.declared.actor.Actor.TheVariants as actors
+use Rattle.std.proofs.Common.{◌≡◌, ◌≢◌, inl, inr, ℕ, zero, suc, ◌+◌, ◌-◌, ◌<◌, ◌≤◌, ◌^◌, List, [], ◌∷◌, length, map, get_or, set, slice_index, Option, Some, refl, sym, ap, ◌∙◌, subst, arith, get_or-set_same, get_or-set_other}
+use Rattle.std.proofs.lemmas.Bool.{cases_eq}
+use Rattle.std.proofs.lemmas.List.{length-map, get_or_read}
 use Rattle.ink_base.specs.declared.entry.Entry.{Entry}
 use Rattle.fram_words.specs.Places as places
 use Rattle.fram_words.specs.Places.{Memory, answer, place_of}
-use Rattle.fram_words.specs.Shape.{address, is_valid, memory_of}
+use Rattle.fram_words.specs.Shape.{address}
 use Rattle.fram_words.specs.declared.access.Access.{Access}
 use Rattle.fram_words.specs.declared.access.Access.TheVariants as fram
 use Rattle.fram_words.specs.declared.layout.Layout.{Layout}
@@ -15,7 +13,7 @@ use Rattle.fram_words.specs.Words.{performed, address_of, FitsWords}
 use Rattle.fram_words.specs.Accesses.{at_address}
 use Rattle.fram_words.proofs.Accesses.{finds_there, word_there, address_same}
 use Rattle.task_isa.specs.declared.program.Program.{Program}
-use Rattle.ink_layout.specs.Addresses.{at_layout, layout_address}
+use Rattle.ink_layout.specs.Addresses.{at_layout}
 use Rattle.ink_layout.specs.Layouts.{IsLayout}
 use Rattle.ink_layout.specs.Points.{entry_of_point}
 use Rattle.ink_layout.specs.Shape.{IsOnBoard}
@@ -29,16 +27,14 @@ use Rattle.priority_sched.proofs.Ends.{scan_in_range}
 use Rattle.task_run.proofs.Ranges.{every_task_fits}
 use Rattle.kernel_core.specs.declared.kernel.Kernel.{Kernel}
 use Rattle.kernel_core.specs.declared.kernel.Kernel.TheVariants as kernels
-use Rattle.kernel_core.specs.declared.made.Made.{Made}
 use Rattle.kernel_core.specs.Kernel.{wants, takes, point_found}
 use Rattle.kernel_core.specs.Fits.{CanWant, CanTake}
-use Rattle.kernel_core.specs.Record.{Charged, charge_of, not_begun, with_kernel, with_tick}
+use Rattle.kernel_core.specs.Record.{Charged, charge_of, with_kernel, with_tick}
 use Rattle.kernel_core.specs.Recorded.{Recorded}
 use Rattle.kernel_core.specs.Board.{Setup, Board, shape, finds, charged, kernel_access, kernel_turn, clock_access, clock_turn, turn}
 use Rattle.kernel_core.specs.Holds.{IsSetup, Holds, BoardStands, memory, state}
-use Rattle.kernel_core.specs.Moves.{IsActor}
 use Rattle.kernel_core.specs.Made.{kernel_made, clock_made}
-use Rattle.kernel_core.specs.Core.{IsCore, IsPusher, AreRecords, CanCount, StaysInRange, setup_of, charge_in, row_in, none_recorded, no_pusher, turns_in, turns_from}
+use Rattle.kernel_core.specs.Core.{IsCore, IsPusher, AreRecords, CanCount, StaysInRange, setup_of, charge_in, row_in, none_recorded, no_pusher, turns_in}
 use Rattle.kernel_core.proofs.Turns.{Goes, kernel_goes, background_of}
 use Rattle.kernel_core.proofs.Cuts.{clock_goes}
 use Rattle.kernel_core.proofs.KernelPlaces.{kernel_on}

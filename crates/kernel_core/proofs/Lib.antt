@@ -18,3 +18,4 @@ pub mod Stamps
 pub mod CoreCuts
 pub mod CoreJobs
 pub mod Settled
+pub mod CoreRuns

@@ -2,15 +2,16 @@
 use Rattle.std.specs.Prelude.{◌≡◌, ℕ, ◌+◌, ◌-◌, ◌*◌, ◌^◌, ◌<◌, ◌≤◌, List, length, map, drop, slice_index, slice_index_or, []}
 use Rattle.fram_words.specs.declared.layout.Layout.{Layout}
 use Rattle.ink_layout.specs.Layouts.{IsLayout}
-use Rattle.ink_layout.specs.declared.plan.Plan.{Plan}
 use Rattle.power_trace.specs.Job.{JobParts, item_turns, charge_turns}
+use Rattle.ink_base.specs.declared.actor.Actor.TheVariants as actors
 use Rattle.power_trace.specs.declared.charge.Charge.{Charge}
+use Rattle.power_trace.specs.declared.item.Item.{Item}
 use Rattle.push_core.specs.Table.{first_row, IsPort}
 use Rattle.push_core.specs.declared.row.Row.{Row}
 use Rattle.push_core.specs.declared.pusher.Pusher.{Pusher}
 use Rattle.source_laws.specs.Rows.{port_of}
 use Rattle.never_cut.specs.declared.model.Model.{Model}
-use Rattle.kernel_core.specs.Record.{Charged, not_begun, charge_of}
+use Rattle.kernel_core.specs.Record.{Charged, not_begun}
 use Rattle.kernel_core.specs.Recorded.{Recorded}
 use Rattle.kernel_core.specs.Board.{Setup, Board, sides}
 use Rattle.kernel_core.specs.Holds.{IsSetup, Holds, state}
@@ -41,9 +42,16 @@ none_recorded = record { charge = not_begun 0; spare = 0 }
 abbrev pub no_charge : Charge
 no_charge = record { off = 0; items = [] }
 
+abbrev pub no_item : Item
+no_item = record { actor = actors.Kernel; count = 0 }
+
+-- one of the charges of a job
+abbrev pub charge_def : JobParts → ℕ → Charge
+charge_def job k = slice_index_or job.charges k no_charge
+
 -- the turns that one charge lists, and all charges from one on
 abbrev pub turns_in : JobParts → ℕ → ℕ
-turns_in job k = item_turns (slice_index_or job.charges k no_charge).items
+turns_in job k = item_turns (charge_def job k).items
 
 abbrev pub turns_from : JobParts → ℕ → ℕ
 turns_from job k = charge_turns (drop k job.charges)

@@ -43,6 +43,13 @@ impl Model for Core {
 }
 
 impl Core {
+    /// The job.
+    pub fn job(&self) -> &Job
+        ensures { result.now ≡ self.now.job }
+    {
+        &self.job
+    }
+
     /// The words of the board.
     pub fn words(&self) -> &Fram
         ensures { result.now ≡ self.now.board.words }
@@ -115,7 +122,7 @@ impl Core {
     }
 
     // The journal is legal, and the words stand for the never-cut kernel after it.
-    fn stands(&self)
+    pub(crate) fn stands(&self)
         ensures { BoardStands (setup_of self.now.job) self.now.board }
     {
         let _begun = self.begun;
@@ -224,9 +231,10 @@ fn lose_rows(pushers: &mut Vec<Pusher>)
 }
 
 // The turns that a charge of the job lists.
-fn turns_in(job: &Job, charge: usize) -> u64
+pub(crate) fn turns_in(job: &Job, charge: usize) -> u64
     requires { charge < length job.now.charges }
-    ensures { result ≡ turns_in job.now charge }
+    ensures turns { result ≡ turns_in job.now charge }
+    ensures few { result ≤ 4194304 }
 {
     let mut turns = 0;
     for item in job.charges()[charge].items.as_slice() {

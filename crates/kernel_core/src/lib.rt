@@ -6,6 +6,7 @@ mod kernel;
 mod laws;
 mod made;
 mod record;
+mod run;
 
 pub use board::Core;
 pub use kernel::Kernel;

@@ -1,4 +1,4 @@
-use Rattle.std.proofs.Common.{◌≡◌, ℕ, ◌+◌, ◌<◌, ◌++◌, List, length, map, take, drop, get_or, set, refl, sym, ap, ◌∙◌, subst, arith}
+use Rattle.std.proofs.Common.{◌≡◌, ◌+◌, ◌++◌, List, length, map, take, drop, get_or, set, refl, sym, ap, ◌∙◌, subst, arith}
 use Rattle.push_core.specs.declared.row.Row.{Row}
 use Rattle.push_core.specs.declared.pusher.Pusher.{Pusher}
 use Rattle.kernel_core.specs.Core.{rebooted, no_pusher}

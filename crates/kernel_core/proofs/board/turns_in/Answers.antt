@@ -1,11 +1,10 @@
-use Rattle.std.proofs.Common.{◌≡◌, ℕ, ◌+◌, ◌<◌, ◌≤◌, length, take, get_or, refl, sym, ap, ◌∙◌, subst, arith}
-use Rattle.std.proofs.lemmas.List.{get_or_read}
+use Rattle.std.proofs.Common.{◌≡◌, ◌+◌, ◌≤◌, get_or, refl, sym, ap, ◌∙◌, subst, arith}
 use Rattle.std.proofs.lemmas.List.Sums.{sum_by_more, sum_by_more_le}
 use Rattle.power_trace.specs.declared.charge.Charge.{Charge}
 use Rattle.power_trace.specs.declared.item.Item.{Item}
 use Rattle.power_trace.specs.Job.{item_turns}
-use Rattle.kernel_core.specs.Core.{no_charge, turns_in}
-use Rattle.kernel_core.proofs.CoreJobs.{no_item, turns_small, charge_is, taken_all}
+use Rattle.kernel_core.specs.Core.{no_item}
+use Rattle.kernel_core.proofs.CoreJobs.{turns_small, charge_is, taken_all}
 use Rattle.kernel_core.proofs.board.turns_in.Goals as goal
 
 pub loop-item-init : goal.loop-item-init
@@ -23,7 +22,13 @@ loop-item-preserved c =
     ap (λ n. n + (get_or c.as_slice-item-items.result.now c.loop-item.item-index no_item).count) c.loop-item.invariant
     ∙ sym (sum_by_more (λ (item : Item). item.count) c.as_slice-item-items.result.now c.loop-item.item-index no_item c.loop-item-test.true)
 
-pub returns : goal.returns
-returns c =
+pub returns-clause-turns : goal.returns-clause-turns
+returns-clause-turns c =
     c.loop-item.invariant ∙ (taken_all (λ (item : Item). item.count) c.as_slice-item-items.result.now c.loop-item.item-index c.loop-item-test.false ∙
     (ap (λ z. item_turns z) c.as_slice-item-items.ensures ∙ (ap (λ (z : Charge). item_turns z.items) (sym c.index-charges-charge.is) ∙ charge_is c.args.job.now c.args.charge c.index-charges-charge.result c.requires (subst (λ z. c.index-charges-charge.result ≡ get_or z c.args.charge c.index-charges-charge.result) c.charges.ensures.same c.index-charges-charge.is))))
+
+pub returns-clause-few : goal.returns-clause-few
+returns-clause-few c =
+    subst (λ n. n ≤ 4194304) (sym (c.loop-item.invariant ∙ (taken_all (λ (item : Item). item.count) c.as_slice-item-items.result.now c.loop-item.item-index c.loop-item-test.false ∙
+    (ap (λ z. item_turns z) c.as_slice-item-items.ensures ∙ (ap (λ (z : Charge). item_turns z.items) (sym c.index-charges-charge.is) ∙ charge_is c.args.job.now c.args.charge c.index-charges-charge.result c.requires (subst (λ z. c.index-charges-charge.result ≡ get_or z c.args.charge c.index-charges-charge.result) c.charges.ensures.same c.index-charges-charge.is))))))
+    (turns_small c.args.job.now c.args.charge c.charges.ensures.job c.requires)

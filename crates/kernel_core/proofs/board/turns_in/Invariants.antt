@@ -1,4 +1,4 @@
-use Rattle.std.proofs.Common.{◌≡◌, ℕ, take}
+use Rattle.std.proofs.Common.{◌≡◌, take}
 use Rattle.power_trace.specs.Job.{item_turns}
 use Rattle.kernel_core.proofs.board.turns_in.Given as goal
 

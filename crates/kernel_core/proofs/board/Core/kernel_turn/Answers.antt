@@ -1,4 +1,4 @@
-use Rattle.std.proofs.Common.{◌≡◌, ℕ, ◌+◌, ◌-◌, ◌<◌, ◌≤◌, refl, sym, ap, ◌∙◌, subst, arith}
+use Rattle.std.proofs.Common.{◌≡◌, ◌+◌, ◌<◌, ◌≤◌, sym, ap, ◌∙◌, subst}
 use Rattle.task_isa.specs.declared.program.Program.{Program}
 use Rattle.ink_layout.specs.Addresses.{at_layout}
 use Rattle.ink_layout.specs.Points.{entry_of_point}

@@ -1,14 +1,10 @@
-use Rattle.std.proofs.Common.{◌≡◌, ℕ, ◌+◌, ◌-◌, ◌<◌, ◌≤◌, ◌^◌, List, length, refl, sym, ap, ◌∙◌, subst, arith}
-use Rattle.push_core.specs.Table.{IsFew, IsLeft, IsRowFor, IsAnswer, take_of, want_of}
+use Rattle.std.proofs.Common.{◌≡◌, ℕ, ◌<◌, List, length, sym, ap, ◌∙◌, subst}
+use Rattle.push_core.specs.Table.{IsFew, IsRowFor, want_of}
 use Rattle.source_laws.specs.Rows.{port_of}
 use Rattle.never_cut.specs.Entries.{readings_of}
-use Rattle.kernel_core.specs.Record.{with_source}
-use Rattle.kernel_core.specs.Recorded.{Recorded}
-use Rattle.kernel_core.specs.Board.{sides, row_of, source_access, source_made}
-use Rattle.kernel_core.specs.Made.{access_made}
+use Rattle.kernel_core.specs.Board.{sides, row_of}
 use Rattle.kernel_core.specs.Core.{View, setup_of}
-use Rattle.kernel_core.proofs.CoreSteps.{at_hand, has_spare, source_counts, source_known}
-use Rattle.kernel_core.proofs.CoreSources.{few, fits, left_in, source_within, source_adds_nothing, answer_in_range, source_made_is, access_made_is, source_made_core, wanted_is}
+use Rattle.kernel_core.proofs.CoreSources.{few, fits, wanted_is}
 use Rattle.kernel_core.proofs.board.Core.next_access.Goals as goal
 
 pub want-requires-clause-few : goal.want-requires-clause-few

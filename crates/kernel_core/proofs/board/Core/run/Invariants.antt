@@ -1,0 +1,10 @@
+use Rattle.std.proofs.Common.{◌≡◌, take}
+use Rattle.std.specs.List.{flat_map}
+use Rattle.kernel_core.specs.Board.{moved_by}
+use Rattle.kernel_core.specs.Listed.{moves_of}
+use Rattle.kernel_core.specs.Core.{setup_of}
+use Rattle.kernel_core.proofs.board.Core.run.Given as goal
+
+abbrev pub invariant-loop-n : goal.invariant-loop-n
+invariant-loop-n l =
+    (l.self.job ≡ l.initial.self.job) × (l.self.board ≡ moved_by (setup_of l.initial.self.job) l.initial.self.board (flat_map moves_of (take l.n l.initial.self.job.charges))) × (l.self.board.begun ≡ l.n)

@@ -1,0 +1,79 @@
+//! A whole run of a job.
+ghost use Rattle.std.specs.Prelude.{◌≡◌, ◌+◌, ◌<◌, ◌≤◌, length, slice_index_or};
+ghost use Rattle.power_trace.specs.Job.{item_turns};
+ghost use Rattle.kernel_core.specs.Board.{moved_by};
+ghost use Rattle.kernel_core.specs.Holds.{BoardStands};
+ghost use Rattle.kernel_core.specs.Listed.{moves, moves_of, turns_of};
+ghost use Rattle.kernel_core.specs.Moves.{IsActor};
+ghost use Rattle.kernel_core.specs.Core.{setup_of, charge_def, no_item};
+
+use crate::board::Core;
+use power_trace::{Item, Job};
+
+impl Core {
+    /// The whole run of the job: for each charge in order a cut with its dark ticks, and then the turns of its items in order.
+    pub fn run(&mut self)
+        requires { self.old.board.begun ≡ 0 }
+        ensures board { self.new.board ≡ moved_by (setup_of self.old.job) self.old.board (moves self.old.job.charges) }
+        ensures stands { BoardStands (setup_of self.new.job) self.new.board }
+        ensures job { self.new.job ≡ self.old.job }
+    {
+        for n in 0..self.job().charges().len() {
+            self.run_charge(n);
+        }
+        self.stands();
+    }
+
+    fn run_charge(&mut self, n: usize)
+        requires begun { self.old.board.begun ≡ n }
+        requires known { n < length self.old.job.charges }
+        ensures board { self.new.board ≡ moved_by (setup_of self.old.job) self.old.board (moves_of (charge_def self.old.job n)) }
+        ensures begun { self.new.board.begun ≡ n + 1 }
+        ensures job { self.new.job ≡ self.old.job }
+    {
+        self.cut(off_at(self.job(), n));
+        for k in 0..items_at(self.job(), n) {
+            self.run_item(item_at(self.job(), n, k));
+        }
+    }
+
+    fn run_item(&mut self, item: Item)
+        requires known { IsActor (setup_of self.old.job) item.actor }
+        requires begun { 0 < self.old.board.begun }
+        requires room { item.count ≤ self.old.room }
+        ensures board { self.new.board ≡ moved_by (setup_of self.old.job) self.old.board (turns_of item) }
+        ensures begun { self.new.board.begun ≡ self.old.board.begun }
+        ensures job { self.new.job ≡ self.old.job }
+        ensures room { self.old.room ≤ self.new.room + item.count }
+    {
+        for _turn in 0..item.count {
+            self.step(item.actor);
+        }
+    }
+}
+
+// The ticks that the board is dark before a charge.
+fn off_at(job: &Job, n: usize) -> u32
+    requires { n < length job.now.charges }
+    ensures { result ≡ (charge_def job.now n).off }
+{
+    job.charges()[n].off
+}
+
+// The number of items of a charge.
+fn items_at(job: &Job, n: usize) -> usize
+    requires { n < length job.now.charges }
+    ensures { result ≡ length (charge_def job.now n).items }
+{
+    job.charges()[n].items.len()
+}
+
+// An item of a charge.
+fn item_at(job: &Job, n: usize, k: usize) -> Item
+    requires charge { n < length job.now.charges }
+    requires item { k < length (charge_def job.now n).items }
+    ensures same { result ≡ slice_index_or (charge_def job.now n).items k no_item }
+    ensures known { IsActor (setup_of job.now) result.actor }
+{
+    job.charges()[n].items.as_slice()[k]
+}
