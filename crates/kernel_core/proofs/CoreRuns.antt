@@ -42,7 +42,7 @@ charges_more s b charges n lt =
 pub item_room : (items : List Item) (k : ℕ) → k < length items → item_turns (drop k items) ≡ (get_or items k no_item).count + item_turns (drop (k + 1) items)
 item_room items k lt = sum_by-drop_more (λ (item : Item). item.count) items k no_item lt
 
-actor_on : (s : Setup) (a : Actor) → IsOnBoard (length s.program.sources) a → IsActor s a
+pub actor_on : (s : Setup) (a : Actor) → IsOnBoard (length s.program.sources) a → IsActor s a
 actor_on s actors.Kernel on = tt
 actor_on s (actors.Source i) on = on
 actor_on s actors.Clock on = tt

@@ -19,3 +19,4 @@ pub mod CoreCuts
 pub mod CoreJobs
 pub mod Settled
 pub mod CoreRuns
+pub mod JobMoves
