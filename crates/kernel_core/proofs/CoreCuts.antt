@@ -12,7 +12,7 @@ use Rattle.push_core.specs.declared.pusher.Pusher.{Pusher}
 use Rattle.power_trace.specs.Job.{JobParts}
 use Rattle.kernel_core.specs.declared.kernel.Kernel.{Kernel}
 use Rattle.kernel_core.specs.Kernel.{first_kernel}
-use Rattle.kernel_core.specs.Record.{Charged, charge_of, not_begun, begun, journal_of}
+use Rattle.kernel_core.specs.Record.{ChargeRecord, charge_of, not_begun, begun, journal_of}
 use Rattle.kernel_core.specs.Recorded.{Recorded}
 use Rattle.ink_base.specs.declared.entry.Entry.TheVariants.{Tick}
 use Rattle.never_cut.specs.declared.model.Model.{Model}
@@ -149,7 +149,7 @@ module _ (job : JobParts) (l : Layout) (b : Board) (room : ℕ) (ps : List Pushe
         unused = λ k le known. ap (λ (z : Recorded). z.charge) (elsewhere k (λ e. absurd (omega arith))) ∙ r.unused k (omega arith) known;
         steps = λ k known. elim (cases_eq k b.begun) [
           | inl e ↦ ap (λ n. length (get_or (set records b.begun x) n none_recorded).charge.source_steps) e
-              ∙ (ap (λ (z : Recorded). length z.charge.source_steps) here ∙ (ap (λ (z : Charged). length z.source_steps) (begun_charge x counts) ∙ length-replicate {A = ℕ} (length job.program.sources) 0))
+              ∙ (ap (λ (z : Recorded). length z.charge.source_steps) here ∙ (ap (λ (z : ChargeRecord). length z.source_steps) (begun_charge x counts) ∙ length-replicate {A = ℕ} (length job.program.sources) 0))
           | inr ne ↦ ap (λ (z : Recorded). length z.charge.source_steps) (elsewhere k ne) ∙ r.steps k known
         ];
       }

@@ -22,7 +22,7 @@ use Rattle.power_trace.specs.Job.{JobParts}
 use Rattle.source_laws.specs.Rows.{access, port_of}
 use Rattle.source_laws.proofs.Ports.{access_of-port}
 use Rattle.source_laws.proofs.Fits.{row_fits, answer_fits}
-use Rattle.kernel_core.specs.Record.{Charged, with_source}
+use Rattle.kernel_core.specs.Record.{ChargeRecord, with_source}
 use Rattle.kernel_core.specs.Recorded.{Recorded}
 use Rattle.kernel_core.specs.Board.{Setup, Board, shape, sides, finds, charged, row_of, source_access, source_made, source_turn, entry_of_source}
 use Rattle.kernel_core.specs.Views.{seen}
@@ -188,7 +188,7 @@ module _ (job : JobParts) (l : Layout) (b : Board) (room : ℕ) (ps : List Pushe
           ticks = let e = c.ticks in omega arith;
         }))
         spare
-        (ap (λ (z : Charged). length z.source_steps) counts ∙ length-set (get_or records (b.begun - 1) none_recorded).charge.source_steps i (slice_index (get_or records (b.begun - 1) none_recorded).charge.source_steps i + 1))
+        (ap (λ (z : ChargeRecord). length z.source_steps) counts ∙ length-set (get_or records (b.begun - 1) none_recorded).charge.source_steps i (slice_index (get_or records (b.begun - 1) none_recorded).charge.source_steps i + 1))
 
   pub wanted_is : (q : Pusher) → q ≡ get_or ps i q → want_of q.port (readings_of job.readings i) q.row ≡ want_of (port_of (sides (setup_of job)) i) (readings_of job.readings i) (row_of b i)
   wanted_is q is = λ k. want_of (port_is q is k) (readings_of job.readings i) (row_is q is k)

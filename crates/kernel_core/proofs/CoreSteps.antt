@@ -29,7 +29,7 @@ use Rattle.kernel_core.specs.declared.kernel.Kernel.{Kernel}
 use Rattle.kernel_core.specs.declared.kernel.Kernel.TheVariants as kernels
 use Rattle.kernel_core.specs.Kernel.{wants, takes, point_found}
 use Rattle.kernel_core.specs.Fits.{CanWant, CanTake}
-use Rattle.kernel_core.specs.Record.{Charged, charge_of, with_kernel, with_tick}
+use Rattle.kernel_core.specs.Record.{ChargeRecord, charge_of, with_kernel, with_tick}
 use Rattle.kernel_core.specs.Recorded.{Recorded}
 use Rattle.kernel_core.specs.Board.{Setup, Board, shape, finds, charged, kernel_access, kernel_turn, clock_access, clock_turn, turn}
 use Rattle.kernel_core.specs.Holds.{IsSetup, Holds, BoardStands, memory, state}
@@ -66,7 +66,7 @@ allowed_fits s words m (places.Exchange p e v) memory h = absurd h
 allowed_fits s words m (places.Add p n) memory h = absurd h
 
 -- the charge of a record that a turn has changed
-pub charged_is : (b : Board) (records : List Recorded) (x : Recorded) (f : Charged → Charged) → b.charges ≡ map charge_in records → x.charge ≡ f (get_or records (b.begun - 1) none_recorded).charge →
+pub charged_is : (b : Board) (records : List Recorded) (x : Recorded) (f : ChargeRecord → ChargeRecord) → b.charges ≡ map charge_in records → x.charge ≡ f (get_or records (b.begun - 1) none_recorded).charge →
     map charge_in (set records (b.begun - 1) x) ≡ charged b f
 charged_is b records x f is counts =
     map-set records (b.begun - 1) x
@@ -215,7 +215,7 @@ module _ (job : JobParts) (l : Layout) (b : Board) (room : ℕ) (ps : List Pushe
       core_after (After words k x) (kernel_turn (setup_of job) b) ps x (kernel_turn_is a w some is found words k o x made taken noted counts)
       (kernel_goes (setup_of job) (length job.charges) b h.is_setup h.holds begun (commits_room some)) h.rows refl refl h.machines begun some
       (subst (λ z. CanCount (room - 1) z) (sym counts) (let c = h.records_are.counts in record { kernel = let e = c.kernel in omega arith; sources = λ i. let e = c.sources i in omega arith; ticks = let e = c.ticks in omega arith }))
-      spare (ap (λ (z : Charged). length z.source_steps) counts)
+      spare (ap (λ (z : ChargeRecord). length z.source_steps) counts)
 
   -- the clock's turn
   clock_at : l.clock ≡ address (shape (setup_of job)) places.Clock
@@ -250,7 +250,7 @@ module _ (job : JobParts) (l : Layout) (b : Board) (room : ℕ) (ps : List Pushe
       core_after (record { words = words; kernel = b.kernel; rows = b.rows; charges = map charge_in (set records (b.begun - 1) x); begun = b.begun }) (clock_turn (setup_of job) b) ps x (clock_turn_is words x made counts)
       (clock_goes (setup_of job) (length job.charges) b h.is_setup h.holds begun (let e = h.range.clock in omega arith)) h.rows refl refl h.machines begun some
       (subst (λ z. CanCount (room - 1) z) (sym counts) (let c = h.records_are.counts in record { kernel = let e = c.kernel in omega arith; sources = λ i. let e = c.sources i in omega arith; ticks = let e = c.ticks in omega arith }))
-      spare (ap (λ (z : Charged). length z.source_steps) counts)
+      spare (ap (λ (z : ChargeRecord). length z.source_steps) counts)
 
   -- the record at hand, as a call on an element of the vector gives it
   module _ (begun : 0 < b.begun) (x : Recorded) (is : x ≡ get_or records (b.begun - 1) x) where

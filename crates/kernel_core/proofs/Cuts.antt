@@ -25,7 +25,7 @@ use Rattle.never_cut.specs.Actors.{SamePrivate, IsPrivate}
 use Rattle.never_cut.proofs.Follows.{follow_private}
 use Rattle.reboot.proofs.Boots.{boot_begins}
 use Rattle.kernel_core.specs.Kernel.{first_kernel}
-use Rattle.kernel_core.specs.Record.{Charged, charge_of, journal_of, begun, with_tick}
+use Rattle.kernel_core.specs.Record.{ChargeRecord, charge_of, journal_of, begun, with_tick}
 use Rattle.kernel_core.specs.Board.{Setup, Board, shape, sides, journal, clock_access, clock_turn, cut, row_of}
 use Rattle.kernel_core.specs.Views.{seen}
 use Rattle.kernel_core.specs.Holds.{IsSetup, memory, state, KernelHolds, Holds}
@@ -127,7 +127,7 @@ cut_goes s count b off g h left room =
       rows = length-replicate (length s.program.sources) first_row;
       charges_count = length-set b.charges b.begun _ ∙ h.size.charges_count;
       begun = omega arith;
-      later = λ k le. ap (λ (c : Charged). c.entries) (others_stay b.charges b.begun k (begun off (charge_of b.charges b.begun)) (λ e. absurd (omega arith))) ∙ h.size.later k (omega arith);
+      later = λ k le. ap (λ (c : ChargeRecord). c.entries) (others_stay b.charges b.begun k (begun off (charge_of b.charges b.begun)) (λ e. absurd (omega arith))) ∙ h.size.later k (omega arith);
     })
     (cut_journal s count b off h left)
     room

@@ -25,7 +25,7 @@ use Rattle.never_cut.specs.Stands.{Saved, saved, thread_words, flag, due_word, S
 use Rattle.never_cut.specs.Plain.{IsPlain}
 use Rattle.never_cut.proofs.SoundStates.{open_sound}
 use Rattle.reboot.proofs.Boots.{boot_begins}
-use Rattle.kernel_core.specs.Record.{Charged, not_begun, charge_of}
+use Rattle.kernel_core.specs.Record.{ChargeRecord, not_begun, charge_of}
 use Rattle.kernel_core.specs.Board.{Setup, Board, shape, sides, row_of, moved_by, first_board}
 use Rattle.kernel_core.specs.Views.{queue_in, source_in, seen}
 use Rattle.kernel_core.specs.Holds.{IsSetup, memory, HasSize, Holds}
@@ -247,8 +247,8 @@ first_size s words charges image = record {
   where
     no_entries : (n k : ℕ) → (charge_of (replicate n (not_begun (length s.program.sources))) k).entries ≡ []
     no_entries n k = elim (cases_lt k n) [
-      | inl lt ↦ ap (λ (c : Charged). c.entries) (get_or-replicate n k (not_begun (length s.program.sources)) (not_begun 0) lt)
-      | inr past ↦ ap (λ (c : Charged). c.entries) (get_or_past (replicate n (not_begun (length s.program.sources))) k (not_begun 0) (rw (length-replicate n (not_begun (length s.program.sources))) past))
+      | inl lt ↦ ap (λ (c : ChargeRecord). c.entries) (get_or-replicate n k (not_begun (length s.program.sources)) (not_begun 0) lt)
+      | inr past ↦ ap (λ (c : ChargeRecord). c.entries) (get_or_past (replicate n (not_begun (length s.program.sources))) k (not_begun 0) (rw (length-replicate n (not_begun (length s.program.sources))) past))
     ]
 
 pub first_holds : (s : Setup) (words : List ℕ) (charges : ℕ) → IsSetup s → IsFirstImage s.program words → Holds s charges (first_board s words charges)

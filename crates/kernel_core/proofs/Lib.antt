@@ -20,4 +20,4 @@ pub mod CoreJobs
 pub mod Settled
 pub mod CoreRuns
 pub mod JobMoves
-pub mod PlainJobs
+pub mod Starts

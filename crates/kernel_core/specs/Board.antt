@@ -23,7 +23,7 @@ use Rattle.source_laws.specs.Rows.{port_of}
 use Rattle.never_cut.specs.Entries.{Readings, readings_of}
 use Rattle.kernel_core.specs.declared.kernel.Kernel.{Kernel}
 use Rattle.kernel_core.specs.Kernel.{first_kernel, wants, takes, point_found}
-use Rattle.kernel_core.specs.Record.{Charged, not_begun, begun, with_kernel, with_source, with_tick, charge_of, journal_of}
+use Rattle.kernel_core.specs.Record.{ChargeRecord, not_begun, begun, with_kernel, with_source, with_tick, charge_of, journal_of}
 
 -- what never changes in a run
 pub record Setup : Type 0 where
@@ -42,7 +42,7 @@ pub record Board : Type 0 where
   pub words : List ℕ
   pub kernel : Kernel
   pub rows : List Row
-  pub charges : List Charged
+  pub charges : List ChargeRecord
   pub begun : ℕ
 
 abbrev pub journal : Board → List Entry
@@ -53,7 +53,7 @@ abbrev pub finds : Board → Access → ℕ
 finds b access = slice_index b.words (address_of access)
 
 -- the charge at hand is the last that has begun
-abbrev pub charged : Board → (Charged → Charged) → List Charged
+abbrev pub charged : Board → (ChargeRecord → ChargeRecord) → List ChargeRecord
 charged b f = slice_set b.charges (b.begun - 1) (f (charge_of b.charges (b.begun - 1)))
 
 abbrev pub kernel_access : Setup → Board → Access

@@ -11,7 +11,7 @@ use Rattle.push_core.specs.declared.row.Row.{Row}
 use Rattle.push_core.specs.declared.pusher.Pusher.{Pusher}
 use Rattle.source_laws.specs.Rows.{port_of}
 use Rattle.never_cut.specs.declared.model.Model.{Model}
-use Rattle.kernel_core.specs.Record.{Charged, not_begun}
+use Rattle.kernel_core.specs.Record.{ChargeRecord, not_begun}
 use Rattle.kernel_core.specs.Recorded.{Recorded}
 use Rattle.kernel_core.specs.Board.{Setup, Board, sides}
 use Rattle.kernel_core.specs.Holds.{IsSetup, Holds, state}
@@ -33,7 +33,7 @@ row_in p = p.row
 abbrev pub rebooted : Pusher → Pusher
 rebooted p = record p { row = first_row }
 
-abbrev pub charge_in : Recorded → Charged
+abbrev pub charge_in : Recorded → ChargeRecord
 charge_in r = r.charge
 
 abbrev pub none_recorded : Recorded
@@ -62,7 +62,7 @@ pub record StaysInRange (job : JobParts) (m : Model) (begun room : ℕ) : Type 0
   pub commits : m.commits + room + turns_from job begun + 1 < 2 ^ 32
 
 -- the counts of a charge can grow by so much
-pub record CanCount (room : ℕ) (c : Charged) : Type 0 where
+pub record CanCount (room : ℕ) (c : ChargeRecord) : Type 0 where
   pub kernel : c.kernel_steps + room < 2 ^ 32
   pub sources : (i : ℕ) → slice_index c.source_steps i + room < 2 ^ 32
   pub ticks : c.tick_steps + room < 2 ^ 32

@@ -10,3 +10,5 @@ pub mod Listed
 pub mod Made
 pub mod Recorded
 pub mod Settled
+pub mod Starts
+pub mod Room

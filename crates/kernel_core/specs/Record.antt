@@ -3,38 +3,32 @@ use Rattle.std.specs.Prelude.{ℕ, zero, suc, ◌+◌, List, [], ◌∷◌, ◌+
 use Rattle.ink_base.specs.declared.entry.Entry.{Entry}
 use Rattle.ink_base.specs.declared.entry.Entry.TheVariants.{Tick}
 use Rattle.never_cut.specs.Journal.{noted}
-
-pub record Charged : Type 0 where
-  pub off : ℕ
-  pub entries : List Entry
-  pub kernel_steps : ℕ
-  pub source_steps : List ℕ
-  pub tick_steps : ℕ
+pub use Rattle.kernel_core.specs.declared.charge_record.ChargeRecord.{ChargeRecord}
 
 -- a charge that has not begun, of a board with so many sources
-abbrev pub not_begun : ℕ → Charged
+abbrev pub not_begun : ℕ → ChargeRecord
 not_begun sources = record { off = 0; entries = []; kernel_steps = 0; source_steps = replicate sources 0; tick_steps = 0 }
 
 -- it begins with the ticks that went by in the dark
-abbrev pub begun : ℕ → Charged → Charged
+abbrev pub begun : ℕ → ChargeRecord → ChargeRecord
 begun off c = record c { off = off; entries = c.entries ++ Tick off ∷ [] }
 
 -- an access of the kernel, of a source and of the clock
-abbrev pub with_kernel : Option Entry → Charged → Charged
+abbrev pub with_kernel : Option Entry → ChargeRecord → ChargeRecord
 with_kernel entry c = record c { entries = noted c.entries entry; kernel_steps = c.kernel_steps + 1 }
 
-abbrev pub with_source : ℕ → Option Entry → Charged → Charged
+abbrev pub with_source : ℕ → Option Entry → ChargeRecord → ChargeRecord
 with_source i entry c = record c { entries = noted c.entries entry; source_steps = slice_set c.source_steps i (slice_index c.source_steps i + 1) }
 
-abbrev pub with_tick : Charged → Charged
+abbrev pub with_tick : ChargeRecord → ChargeRecord
 with_tick c = record c { entries = c.entries ++ Tick 1 ∷ []; tick_steps = c.tick_steps + 1 }
 
 -- the entries of the first so many charges, in order
-abbrev pub journal_of : List Charged → ℕ → List Entry
+abbrev pub journal_of : List ChargeRecord → ℕ → List Entry
 journal_of charges zero = []
 journal_of [] (suc n) = []
 journal_of (c ∷ charges) (suc n) = c.entries ++ journal_of charges n
 
 -- one of the charges
-abbrev pub charge_of : List Charged → ℕ → Charged
+abbrev pub charge_of : List ChargeRecord → ℕ → ChargeRecord
 charge_of charges k = slice_index_or charges k (not_begun 0)

@@ -1,24 +1,33 @@
 //! The board of a job and its turns.
 ghost use Rattle.std.specs.Prelude.{◌≡◌, ◌+◌, ◌<◌, ◌≤◌, length, map, Some};
 ghost use Rattle.ink_layout.specs.Points.{entry_of_point};
+ghost use Rattle.ink_layout.specs.Image.{IsFirstImage};
+ghost use Rattle.never_cut.specs.Plain.{IsPlain};
+ghost use Rattle.task_run.specs.Knows.{HasCode};
 ghost use Rattle.push_core.specs.Table.{IsLeft, want_of};
 ghost use Rattle.source_laws.specs.Rows.{port_of};
 ghost use Rattle.never_cut.specs.Entries.{readings_of};
-ghost use Rattle.kernel_core.specs.Board.{turn, cut, kernel_turn, clock_turn, source_made, source_turn, source_access, row_of, sides, entry_of_source};
+ghost use Rattle.kernel_core.specs.Board.{first_board, turn, cut, kernel_turn, clock_turn, source_made, source_turn, source_access, row_of, sides, entry_of_source};
 ghost use Rattle.kernel_core.specs.Holds.{BoardStands};
 ghost use Rattle.kernel_core.specs.Moves.{IsActor};
 ghost use Rattle.kernel_core.specs.Made.{made_by, kernel_made, access_made, source_makes, clock_made, nothing_made};
+ghost use Rattle.power_trace.specs.Job.{IsJob};
+ghost use Rattle.kernel_core.specs.Room.{HasRoom};
+ghost use Rattle.kernel_core.specs.Starts.{AreFirstPushers, AreFirstRecords};
 ghost use Rattle.kernel_core.specs.Core.{View, IsCore, setup_of, row_in, charge_in, rebooted, turns_in};
 
 use crate::kernel::Kernel;
 use crate::made::Made;
-use crate::record::ChargeRecord;
+use crate::recording::Recording;
+use crate::run_record::{RecordRoom, RunRecord};
+use crate::start::Start;
 use fram_words::{Access, Fram};
 use ink_base::{Actor, Entry, SourceId};
 use ink_layout::{KernelPoint, Plan};
 use power_trace::Job;
 use push_core::{Point, Pusher, Row};
 use std::marker::Model;
+use task_run::read_code_back;
 
 /// A job's board in its run: the words, the kernel, the sources and the clock, and what each charge leaves behind. Contracts see the
 /// job, the board, and for how many turns of the charge at hand there is room.
@@ -29,9 +38,10 @@ pub struct Core {
     fram: Fram,
     kernel: Kernel,
     pushers: Vec<Pusher>,
-    charges: Vec<ChargeRecord>,
+    charges: Vec<Recording>,
     begun: usize,
     room: u64,
+    space: RecordRoom,
 }
 
 impl Model for Core {
@@ -39,10 +49,65 @@ impl Model for Core {
 
     ghost view = { λ c. record { job = c.job; board = record { words = c.fram; kernel = c.kernel; rows = map row_in c.pushers.items; charges = map charge_in c.charges.items; begun = c.begun }; room = c.room } };
 
-    ghost invariant = { λ c. (c.plan.accepted ≡ c.job.program) × IsCore c.job c.plan.layout (record { words = c.fram; kernel = c.kernel; rows = map row_in c.pushers.items; charges = map charge_in c.charges.items; begun = c.begun }) c.room c.pushers.items c.charges.items };
+    ghost invariant = { λ c. ((c.plan.accepted ≡ c.job.program) × HasRoom c.space c.job c.plan.layout) × IsCore c.job c.plan.layout (record { words = c.fram; kernel = c.kernel; rows = map row_in c.pushers.items; charges = map charge_in c.charges.items; begun = c.begun }) c.room c.pushers.items c.charges.items };
 }
 
 impl Core {
+    // The core of a job whose parts are as they are before the first charge.
+    pub(crate) fn begin(job: Job, start: Start) -> Core
+        requires job { IsJob job }
+        requires plain { IsPlain job.program }
+        requires plan { start.plan.accepted ≡ job.program }
+        requires image { IsFirstImage job.program start.fram }
+        requires pushers { AreFirstPushers job (length job.program.sources) start.pushers.items }
+        requires charges { AreFirstRecords job (length job.charges) start.charges.items }
+        requires space { HasRoom start.space job start.plan.layout }
+        ensures job { result.job ≡ job }
+        ensures words { result.board.words ≡ start.fram }
+        ensures board { result.board ≡ first_board (setup_of job) start.fram (length job.charges) }
+        ensures code { HasCode job.program }
+    {
+        let Start {
+            plan,
+            fram,
+            pushers,
+            charges,
+            space,
+        } = start;
+        read_code_back(plan.program());
+        Core {
+            job,
+            plan,
+            fram,
+            kernel: Kernel::boot(),
+            pushers,
+            charges,
+            begun: 0,
+            room: 0,
+            space,
+        }
+    }
+
+    /// What the board leaves behind: the job, what each charge recorded, and the words as they stand. It takes no memory.
+    pub fn into_record(self) -> RunRecord
+        ensures job { result.job ≡ self.job }
+        ensures charges { result.charges ≡ self.board.charges }
+        ensures words { result.words ≡ self.board.words }
+    {
+        let Core {
+            job,
+            plan: _,
+            fram,
+            kernel: _,
+            pushers: _,
+            charges,
+            begun: _,
+            room: _,
+            space,
+        } = self;
+        space.fill(job, charges, &fram)
+    }
+
     /// The job.
     pub fn job(&self) -> &Job
         ensures { result.now ≡ self.now.job }

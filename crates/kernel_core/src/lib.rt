@@ -2,14 +2,19 @@
 #![tactic(auto)]
 
 mod board;
+mod charge_record;
 mod kernel;
 mod laws;
 mod made;
-mod record;
+mod recording;
 mod run;
+mod run_record;
+mod start;
 
 pub use board::Core;
+pub use charge_record::ChargeRecord;
 pub use kernel::Kernel;
 pub use laws::boards_stand;
 pub use made::Made;
-pub use record::ChargeRecord;
+pub use run_record::RunRecord;
+pub use start::prepare;

@@ -1,17 +1,18 @@
-//! What a charge leaves behind.
+//! The record of a charge while it is written.
 ghost use Rattle.std.specs.Prelude.{◌≡◌, ◌+◌, ◌-◌, ◌<◌, ◌≤◌, ◌^◌, length, slice_index, vec_len, vec_capacity, IfOk};
 ghost use Rattle.never_cut.specs.Journal.{noted};
-ghost use Rattle.kernel_core.specs.Record.{Charged, not_begun, begun, with_kernel, with_source, with_tick};
+ghost use Rattle.kernel_core.specs.Record.{not_begun, begun, with_kernel, with_source, with_tick};
 ghost use Rattle.kernel_core.specs.Recorded.{Recorded};
 
+use crate::charge_record::ChargeRecord;
 use ink_base::{Entry, NoMemory};
+use sqlite_items::Items;
 use std::alloc::Global;
 use std::marker::Model;
 
-/// The ticks before a charge, its entries of the journal in order, and how many accesses the kernel, each source and the clock made in
-/// it. Contracts see this and for how many more entries the room was taken.
+/// The record of a charge, to which turns add. Contracts see it and for how many more entries there is room.
 #[derive(Debug, Drop)]
-pub struct ChargeRecord {
+pub(crate) struct Recording {
     off: u32,
     entries: Vec<Entry>,
     kernel_steps: u32,
@@ -19,22 +20,22 @@ pub struct ChargeRecord {
     tick_steps: u32,
 }
 
-impl Model for ChargeRecord {
+impl Model for Recording {
     ghost Value = { Recorded };
 
     ghost view = { λ c. record { charge = record { off = c.off; entries = c.entries.items; kernel_steps = c.kernel_steps; source_steps = c.source_steps.items; tick_steps = c.tick_steps }; spare = vec_capacity c.entries - vec_len c.entries } };
 }
 
-impl ChargeRecord {
+impl Recording {
     /// The record of a charge that has not begun, on a board of so many sources, with room for so many entries.
-    pub fn new(alloc: Global, sources: usize, room: usize) -> Result<ChargeRecord, NoMemory>
+    pub fn new(alloc: Global, sources: usize, room: usize) -> Result<Recording, NoMemory>
         ensures charge { IfOk result (λ r. r.charge ≡ not_begun sources) }
         ensures room { IfOk result (λ r. room ≤ r.spare) }
     {
         let entries = Vec::with_capacity(alloc, room)?;
         let mut source_steps = Vec::new(alloc);
         source_steps.resize(sources, 0)?;
-        Ok(ChargeRecord {
+        Ok(Recording {
             off: 0,
             entries,
             kernel_steps: 0,
@@ -43,39 +44,24 @@ impl ChargeRecord {
         })
     }
 
-    /// The ticks that the board was dark before the charge.
-    pub fn off(&self) -> u32
-        ensures { result ≡ self.now.charge.off }
+    /// The record of the charge. It takes no memory.
+    pub fn finish(self) -> ChargeRecord
+        ensures { result ≡ self.charge }
     {
-        self.off
-    }
-
-    /// The entries that the charge added to the journal.
-    pub fn entries(&self) -> &[Entry]
-        ensures { result.now ≡ self.now.charge.entries }
-    {
-        self.entries.as_slice()
-    }
-
-    /// The accesses that the kernel made.
-    pub fn kernel_steps(&self) -> u32
-        ensures { result ≡ self.now.charge.kernel_steps }
-    {
-        self.kernel_steps
-    }
-
-    /// The accesses that each source made.
-    pub fn source_steps(&self) -> &[u32]
-        ensures { result.now ≡ self.now.charge.source_steps }
-    {
-        self.source_steps.as_slice()
-    }
-
-    /// The ticks that the clock added.
-    pub fn tick_steps(&self) -> u32
-        ensures { result ≡ self.now.charge.tick_steps }
-    {
-        self.tick_steps
+        let Recording {
+            off,
+            entries,
+            kernel_steps,
+            source_steps,
+            tick_steps,
+        } = self;
+        ChargeRecord {
+            off,
+            entries: Items::from_vec(entries),
+            kernel_steps,
+            source_steps: Items::from_vec(source_steps),
+            tick_steps,
+        }
     }
 
     fn note(&mut self, entry: Option<Entry>)
@@ -88,7 +74,7 @@ impl ChargeRecord {
         }
     }
 
-    pub(crate) fn begin(&mut self, off: u32)
+    pub fn begin(&mut self, off: u32)
         requires spare { 0 < self.old.spare }
         ensures charge { self.new.charge ≡ begun off self.old.charge }
         ensures spare { self.old.spare ≤ self.new.spare + 1 }
@@ -97,7 +83,7 @@ impl ChargeRecord {
         self.note(Some(Entry::Tick { by: off as u64 }));
     }
 
-    pub(crate) fn note_kernel(&mut self, entry: Option<Entry>)
+    pub fn note_kernel(&mut self, entry: Option<Entry>)
         requires spare { 0 < self.old.spare }
         requires steps { self.old.charge.kernel_steps + 1 < 2 ^ 32 }
         ensures charge { self.new.charge ≡ with_kernel entry self.old.charge }
@@ -107,7 +93,7 @@ impl ChargeRecord {
         self.kernel_steps += 1;
     }
 
-    pub(crate) fn note_source(&mut self, source: usize, entry: Option<Entry>)
+    pub fn note_source(&mut self, source: usize, entry: Option<Entry>)
         requires spare { 0 < self.old.spare }
         requires known { source < length self.old.charge.source_steps }
         requires steps { slice_index self.old.charge.source_steps source + 1 < 2 ^ 32 }
@@ -118,7 +104,7 @@ impl ChargeRecord {
         self.source_steps[source] += 1;
     }
 
-    pub(crate) fn note_tick(&mut self)
+    pub fn note_tick(&mut self)
         requires spare { 0 < self.old.spare }
         requires steps { self.old.charge.tick_steps + 1 < 2 ^ 32 }
         ensures charge { self.new.charge ≡ with_tick self.old.charge }

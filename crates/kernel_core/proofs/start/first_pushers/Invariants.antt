@@ -1,0 +1,5 @@
+use Rattle.kernel_core.specs.Starts.{AreFirstPushers}
+use Rattle.kernel_core.proofs.start.first_pushers.Given as goal
+
+abbrev pub invariant-loop-i : goal.invariant-loop-i
+invariant-loop-i l = AreFirstPushers l.job l.i l.pushers.items

@@ -1,0 +1,5 @@
+use Rattle.kernel_core.specs.Starts.{AreFirstRecords}
+use Rattle.kernel_core.proofs.start.first_records.Given as goal
+
+abbrev pub invariant-loop-k : goal.invariant-loop-k
+invariant-loop-k l = AreFirstRecords l.job l.k l.records.items
