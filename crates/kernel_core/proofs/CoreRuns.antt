@@ -14,7 +14,7 @@ use Rattle.kernel_core.specs.Listed.{turns_of, moves_of}
 use Rattle.kernel_core.specs.Moves.{IsActor}
 use Rattle.kernel_core.specs.Core.{setup_of, charge_def, no_charge, no_item}
 
-moved_append : (s : Setup) (b : Board) (xs ys : List Move) → moved_by s b (xs ++ ys) ≡ moved_by s (moved_by s b xs) ys
+pub moved_append : (s : Setup) (b : Board) (xs ys : List Move) → moved_by s b (xs ++ ys) ≡ moved_by s (moved_by s b xs) ys
 moved_append s b [] ys = refl
 moved_append s b (x ∷ xs) ys = moved_append s (move s b x) xs ys
 

@@ -28,7 +28,7 @@ use Rattle.kernel_core.specs.Kernel.{first_kernel}
 use Rattle.kernel_core.specs.Record.{ChargeRecord, charge_of, journal_of, begun, with_tick}
 use Rattle.kernel_core.specs.Board.{Setup, Board, shape, sides, journal, clock_access, clock_turn, cut, row_of}
 use Rattle.kernel_core.specs.Views.{seen}
-use Rattle.kernel_core.specs.Holds.{IsSetup, memory, state, KernelHolds, Holds}
+use Rattle.kernel_core.specs.Holds.{IsSetup, memory, state, KernelHolds, HasSize, Holds}
 use Rattle.kernel_core.proofs.Sides.{within, shared_of}
 use Rattle.kernel_core.proofs.Quiet.{quiet, perform_other}
 use Rattle.kernel_core.proofs.Charges.{noted_last, fresh, others_stay, charged_journal, charged_later}
@@ -104,18 +104,18 @@ first_rows n i =
     ]
 
 -- the charge that begins notes its tick
-cut_journal : (s : Setup) (count : ℕ) (b : Board) (off : ℕ) → Holds s count b → b.begun < count → journal (cut s b off) ≡ noted (journal b) (Some (Tick off))
+pub cut_journal : (s : Setup) (count : ℕ) (b : Board) (off : ℕ) → HasSize s count b → b.begun < count → journal (cut s b off) ≡ noted (journal b) (Some (Tick off))
 cut_journal s count b off h left =
-    let lt : b.begun < length b.charges = rw h.size.charges_count left in
+    let lt : b.begun < length b.charges = rw h.charges_count left in
     let one_more : suc b.begun ≡ b.begun + 1 = omega arith in
     subst (λ n. journal_of (set b.charges b.begun (begun off (charge_of b.charges b.begun))) n ≡ noted (journal b) (Some (Tick off))) one_more
     (noted_last b.charges b.begun (begun off (charge_of b.charges b.begun)) (Some (Tick off)) lt refl
-    ∙ ap (λ l. noted l (Some (Tick off))) (fresh b.charges b.begun (h.size.later b.begun (omega arith))))
+    ∙ ap (λ l. noted l (Some (Tick off))) (fresh b.charges b.begun (h.later b.begun (omega arith))))
 
 -- a cut commits nothing
 pub cut_commits : (s : Setup) (count : ℕ) (b : Board) (off : ℕ) → Holds s count b → b.begun < count → (state s (cut s b off)).commits ≡ (state s b).commits
 cut_commits s count b off h left =
-    ap (λ (l : List Entry). (after s.program s.readings l).commits) (cut_journal s count b off h left)
+    ap (λ (l : List Entry). (after s.program s.readings l).commits) (cut_journal s count b off h.size left)
     ∙ ap (λ (m : Model). m.commits) (after_from-noted s.program s.readings (open_model s.program) (journal b) (Some (Tick off)))
 
 pub cut_goes : (s : Setup) (count : ℕ) (b : Board) (off : ℕ) → IsSetup s → Holds s count b → b.begun < count → (state s b).clock + off < 2 ^ 47 → Goes s count b (cut s b off) off
@@ -129,7 +129,7 @@ cut_goes s count b off g h left room =
       begun = omega arith;
       later = λ k le. ap (λ (c : ChargeRecord). c.entries) (others_stay b.charges b.begun k (begun off (charge_of b.charges b.begun)) (λ e. absurd (omega arith))) ∙ h.size.later k (omega arith);
     })
-    (cut_journal s count b off h left)
+    (cut_journal s count b off h.size left)
     room
     (subst (λ (n : Memory). StandsPrivate n s.program (next_state s count b off g h room)) (sym words) (private_ticked s count b off g h room))
     (ap (λ (n : Memory). n Clock) words ∙ clock_ticked s count b off g h room)

@@ -94,7 +94,7 @@ charges_ticks sources (charge ∷ charges) all =
     let all_turns : charge_turns (charge ∷ charges) ≡ item_turns charge.items + charge_turns charges = sum_by-cons (λ (c : Charge). item_turns c.items) charge charges in
     omega arith
 
-charges_turns : (charges : List Charge) → turns (moves charges) ≡ charge_turns charges
+pub charges_turns : (charges : List Charge) → turns (moves charges) ≡ charge_turns charges
 charges_turns [] = refl
 charges_turns (charge ∷ charges) =
     let first : turns (moves_of charge) ≡ item_turns charge.items = omega (arith, items_turns charge.items) in

@@ -21,3 +21,4 @@ pub mod Settled
 pub mod CoreRuns
 pub mod JobMoves
 pub mod Starts
+pub mod Growth
