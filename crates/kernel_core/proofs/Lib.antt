@@ -17,7 +17,6 @@ pub mod CoreSteps
 pub mod Stamps
 pub mod CoreCuts
 pub mod CoreJobs
-pub mod Settled
 pub mod CoreRuns
 pub mod JobMoves
 pub mod Starts

@@ -9,7 +9,7 @@ use Rattle.source_laws.specs.Kept.{Kept}
 use Rattle.never_cut.specs.declared.model.Model.{Model}
 use Rattle.never_cut.specs.Journal.{after, IsLegal}
 use Rattle.never_cut.specs.Stands.{StandsPrivate, Stands}
-use Rattle.never_cut.proofs.SoundSteps.{AreShort}
+use Rattle.never_cut.specs.Within.{AreShort}
 use Rattle.never_cut.specs.Plain.{IsPlain}
 use Rattle.reboot.specs.Boot.{boot_stamp}
 use Rattle.reboot.specs.Knows.{BootHolds}

@@ -9,6 +9,5 @@ pub mod Fits
 pub mod Listed
 pub mod Made
 pub mod Recorded
-pub mod Settled
 pub mod Starts
 pub mod Room

@@ -22,4 +22,11 @@ pub mod Timely
 pub mod Bounds
 pub mod Steps
 pub mod Opens
+pub mod Commits
+pub mod Settled
+pub mod Traps
+pub mod ThreadStates
+pub mod Stamped
+pub mod Turns
+pub mod Served
 pub mod Replays

@@ -1,5 +1,5 @@
 -- The pending event of a plain program's thread, and what the accesses of the other actors leave of it.
-use Rattle.std.proofs.Common.{◌≡◌, ℕ, Bool, true, false, List, length, drop, Option, Some, None, sym, ap, ◌∙◌, inl, inr}
+use Rattle.std.proofs.Common.{◌≡◌, ℕ, Bool, true, false, List, length, drop, Option, Some, None, refl, sym, ap, ◌∙◌, inl, inr}
 use Rattle.std.specs.Prelude.{if◌then◌else◌}
 use Rattle.std.proofs.lemmas.Bool.{cases_Bool}
 use Rattle.ink_base.specs.declared.event.Event.{Event}
@@ -62,6 +62,16 @@ pending-first program m t scan e is idle unlooked clear first =
 pub pending-later : (program : Program) (m : Model) (t : ℕ) (scan : ScanModel) → m.scan ≡ Some scan → (thread_of m t).running ≡ None →
     is_looked scan.looked t ≡ true → pending program m t ≡ later_event program m t scan.time
 pending-later program m t scan is idle looked = pending-idle program m t scan true is idle looked
+
+-- of a plain program's idle thread, it is the first event of the queue
+pub pending-is_first : (program : Program) (m : Model) (t : ℕ) (scan : ScanModel) (e : Event) → IsPlain program → (thread_of m t).running ≡ None →
+    (thread_of m t).finished ≡ false → m.scan ≡ Some scan → pending program m t ≡ Some e → first_of (thread_of m t).held ≡ Some e
+pending-is_first program m t scan e plain idle clear is waits =
+    by_look (is_looked scan.looked t) (sym (pending-idle program m t scan (is_looked scan.looked t) is idle refl) ∙ waits)
+  where
+    by_look : (b : Bool) → (if b then later_event program m t scan.time else first_of (unfinished (thread_of m t))) ≡ Some e → first_of (thread_of m t).held ≡ Some e
+    by_look true found = absurd (let clash : None ≡ Some e = sym (later_none program m t scan.time plain) ∙ found in cc)
+    by_look false found = ap (λ b. first_of (if b then drop 1 (thread_of m t).held else (thread_of m t).held)) (sym clear) ∙ found
 
 later_follows : (program : Program) (m next : Model) (t time : ℕ) → Follows m next → later_event program next t time ≡ later_event program m t time
 later_follows program m next t time f =

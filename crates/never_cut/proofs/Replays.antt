@@ -1,6 +1,6 @@
 -- What a replay keeps from entry to entry.
-use Rattle.std.proofs.Common.{◌≡◌, ℕ, ◌+◌, ◌-◌, ◌^◌, ◌<◌, List, [], ◌∷◌, ◌++◌, length, take, get_or, sym, ◌∙◌, ap, subst, arith}
-use Rattle.std.proofs.lemmas.List.{take_more}
+use Rattle.std.proofs.Common.{◌≡◌, ℕ, ◌+◌, ◌-◌, ◌^◌, ◌<◌, ◌≤◌, List, [], ◌∷◌, ◌++◌, length, take, get_or, sym, ◌∙◌, ap, subst, arith}
+use Rattle.std.proofs.lemmas.List.{take_all, take_more}
 use Rattle.ink_base.specs.declared.entry.Entry.{Entry}
 use Rattle.task_isa.specs.declared.program.Program.{Program}
 use Rattle.prog_check.specs.Accepted.{IsAccepted}
@@ -41,3 +41,9 @@ replays_more program readings entries n old new d accepted replays inside may ma
           ∙ ap (after program readings) (sym more);
       within = subst (IsWithin program (n + 1)) (sym makes) (stays_within program readings n old e accepted replays.within may);
     }
+
+-- all entries are legal, once all were replayed
+pub replayed : (program known : Program) (readings : Readings) (entries : List Entry) (n : ℕ) (m : Model) → program ≡ known → Replays program readings entries n m →
+    length entries ≤ n → IsLegal known readings entries
+replayed program known readings entries n m same replays all =
+    subst (λ p. IsLegal p readings entries) same (subst (IsLegal program readings) (take_all n entries all) replays.legal)

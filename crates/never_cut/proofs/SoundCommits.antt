@@ -1,5 +1,5 @@
 -- A legal commit of a plain program keeps a state sound.
-use Rattle.std.proofs.Common.{◌≡◌, ◌≢◌, ℕ, ◌+◌, ◌-◌, ◌<◌, ◌≤◌, Bool, true, false, cond, List, [], ◌∷◌, ◌++◌, length, drop, get_or, set, Option, Some, None, refl, sym, ap, ◌∙◌, arith, subst, inl, inr, length-append, length-set}
+use Rattle.std.proofs.Common.{◌≡◌, ◌≢◌, ℕ, ◌+◌, ◌-◌, ◌<◌, ◌≤◌, Bool, true, false, List, [], ◌∷◌, ◌++◌, length, get_or, set, Option, Some, None, refl, sym, ap, ◌∙◌, arith, subst, inl, inr, length-append, length-set}
 use Rattle.std.specs.Prelude.{if◌then◌else◌, ◌&&◌}
 use Rattle.std.proofs.lemmas.Bool.{cases_eq, cases_lt}
 use Rattle.std.proofs.lemmas.List.{get_or_past}
@@ -22,8 +22,8 @@ use Rattle.never_cut.specs.declared.thread_model.ThreadModel.{ThreadModel}
 use Rattle.never_cut.specs.declared.pipe_model.PipeModel.{PipeModel}
 use Rattle.never_cut.specs.declared.timer_model.TimerModel.{TimerModel}
 use Rattle.never_cut.specs.declared.scan_model.ScanModel.{ScanModel}
-use Rattle.never_cut.specs.State.{thread_of, source_of, is_running, is_looked, unfinished, no_timer}
-use Rattle.never_cut.specs.Pending.{pending, pending_in, later_event, first_of, first_number, has_item, has_due, item_event, due_event}
+use Rattle.never_cut.specs.State.{thread_of, source_of, is_running, no_timer}
+use Rattle.never_cut.specs.Pending.{pending, first_of}
 use Rattle.never_cut.specs.Commit.{outputs_of, committed, ended, consumed, taken_from, moved_on, with_sends, with_item, with_timers, set_by, stamped, thread_after, end_at, start_at, task_at, is_overdue, expired}
 use Rattle.never_cut.specs.Entries.{Readings, Legal, effect}
 use Rattle.never_cut.specs.Plain.{IsPlain, IsPlainInstr}
@@ -32,6 +32,7 @@ use Rattle.never_cut.proofs.PlainRuns.{RunKeeps, run_keeps}
 use Rattle.never_cut.proofs.SoundParts.{IsSoundAt, ThreadSound, IsPlainSound}
 use Rattle.never_cut.proofs.SoundSteps.{sources_same, thread_changes, idle_with}
 use Rattle.never_cut.proofs.Accepted.{accepted_same}
+use Rattle.never_cut.proofs.Picks.{pending-is_first}
 use Rattle.never_cut.specs.Picked.{AreIdle}
 
 -- consuming, sending and setting keep the number of pipes and timers
@@ -54,35 +55,9 @@ set_count [] timers = refl
 set_count (s ∷ settings) timers =
     set_count settings (set timers s.timer.0 (set_by s (get_or timers s.timer.0 no_timer))) ∙ length-set timers s.timer.0 _
 
--- a plain program has nothing to take up later
-pub later_none : (program : Program) (m : Model) (t time : ℕ) → IsPlain program → later_event program m t time ≡ None
-later_none program m t time plain =
-    let pipes : length program.pipes ≡ 0 = ap length plain.pipes in
-    let timers : length program.timers ≡ 0 = ap length plain.timers in
-    subst (λ (n : ℕ × ℕ). (elim (first_number (has_item program m t) 0 n.0) [
-      | Some q ↦ Some (item_event m q)
-      | None ↦ due_event m (first_number (has_due program m t time) 0 n.1)
-    ]) ≡ None) (sym (λ k. (pipes k, timers k))) refl
-
 first_some : (held : List Event) (e : Event) → first_of held ≡ Some e → 0 < length held
 first_some [] e h = absurd (let clash : None ≡ Some e = h in cc)
 first_some (x ∷ held) e h = omega arith
-
--- the pending event of an idle thread is the first of its queue
-pub pending_first : (program : Program) (m : Model) (t : ℕ) (scan : ScanModel) (e : Event) → IsPlain program → (thread_of m t).running ≡ None → (thread_of m t).finished ≡ false →
-    m.scan ≡ Some scan → pending program m t ≡ Some e → first_of (thread_of m t).held ≡ Some e
-pending_first program m t scan e plain idle open_queue is h =
-    let here : pending_in program m t scan ≡ Some e =
-    sym (ap (λ (o : Option ScanModel). elim o [ None ↦ None | Some s ↦ pending_in program m t s ]) is) ∙ h in
-    let waiting : cond (is_looked scan.looked t) (later_event program m t scan.time) (first_of (unfinished (thread_of m t))) ≡ Some e =
-    sym (ap (λ (o : Option Rattle.ink_base.specs.declared.ids.TaskId.TaskId). elim o [ Some task ↦ (thread_of m t).event | None ↦ cond (is_looked scan.looked t) (later_event program m t scan.time) (first_of (unfinished (thread_of m t))) ]) idle) ∙ here in
-    let all : unfinished (thread_of m t) ≡ (thread_of m t).held = ap (λ (b : Bool). cond b (drop 1 (thread_of m t).held) (thread_of m t).held) open_queue in
-    by_look (is_looked scan.looked t) waiting all
-  where
-    by_look : (b : Bool) → cond b (later_event program m t scan.time) (first_of (unfinished (thread_of m t))) ≡ Some e → unfinished (thread_of m t) ≡ (thread_of m t).held →
-        first_of (thread_of m t).held ≡ Some e
-    by_look true w all = absurd (let clash : None ≡ Some e = sym (later_none program m t scan.time plain) ∙ w in cc)
-    by_look false w all = ap first_of (sym all) ∙ w
 
 -- an idle thread is none whose chain runs
 pub not_running : (x : ThreadModel) → x.running ≡ None → is_running x ≡ false
@@ -264,7 +239,7 @@ commit_sound program readings m t plain h legal = by_scan m.scan refl
     by_pending scan is None p = h
     by_pending scan is (Some e) p =
         committed_sound program readings m t.0 e scan.time plain h legal.0
-        (first_some (thread_of m t.0).held e (pending_first program m t.0 scan e plain (h.idle t.0) (h.calm scan is t.0 legal.0) is p)) (h.scan scan is)
+        (first_some (thread_of m t.0).held e (pending-is_first program m t.0 scan e plain (h.idle t.0) (h.calm scan is t.0 legal.0) is p)) (h.scan scan is)
 
     by_scan : (o : Option ScanModel) → m.scan ≡ o →
         IsPlainSound program readings (elim o [ None ↦ m | Some scan ↦ elim (pending program m t.0) [ None ↦ m | Some e ↦ committed program t.0 e scan.time m ] ])

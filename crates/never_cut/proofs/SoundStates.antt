@@ -19,9 +19,10 @@ use Rattle.never_cut.specs.Stands.{published}
 use Rattle.never_cut.specs.Sound.{IsSound, accepted_into}
 use Rattle.never_cut.specs.Plain.{IsPlain}
 use Rattle.never_cut.specs.Picked.{AreIdle}
+use Rattle.never_cut.specs.Within.{AreShort}
 use Rattle.never_cut.proofs.Accepted.{accepted_bound, accepted_of}
 use Rattle.never_cut.proofs.SoundParts.{IsPlainSound, ThreadSound, plain_of, sound_of}
-use Rattle.never_cut.proofs.SoundSteps.{AreShort, push_sound, refuse_sound, skip_sound, tick_sound, scan_sound, look_sound, release_sound}
+use Rattle.never_cut.proofs.SoundSteps.{push_sound, refuse_sound, skip_sound, tick_sound, scan_sound, look_sound, release_sound}
 use Rattle.never_cut.proofs.SoundCommits.{commit_sound}
 
 pub entry_sound : (program : Program) (readings : Readings) (m : Model) (e : Entry) → IsAccepted program → IsPlain program → AreShort readings → IsPlainSound program readings m →

@@ -19,14 +19,10 @@ use Rattle.never_cut.specs.Entries.{Readings, readings_of, Legal, effect, IsCalm
 use Rattle.never_cut.specs.Stands.{event_at}
 use Rattle.never_cut.specs.Sound.{IsSoundSource, IsQueued, accepted_into}
 use Rattle.never_cut.specs.Picked.{AreIdle}
+use Rattle.never_cut.specs.Within.{AreShort}
 use Rattle.never_cut.proofs.Threads.{thread_of-with_same, thread_of-with_other}
 use Rattle.never_cut.proofs.Accepted.{accepted_same, accepted_more, accepted_of}
 use Rattle.never_cut.proofs.SoundParts.{IsSoundAt, ThreadSound, IsPlainSound}
-
--- no list of readings is too long, and each reading has 32 bits
-pub record AreShort (readings : Readings) : Type 0 where
-  pub few : (i : ℕ) → length (readings_of readings i) ≤ 65535
-  pub values : (i k : ℕ) → get_or (readings_of readings i) k 0 < 2 ^ 32
 
 source_same : (m : Model) (i : ℕ) (s : SourceModel) → i < length m.sources → source_of (with_source m i s) i ≡ s
 source_same m i s lt = get_or-set_same m.sources i s no_source lt

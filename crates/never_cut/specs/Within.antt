@@ -1,5 +1,5 @@
 -- The bounds of a state that few entries lead to, and the readings that a board can have.
-use Rattle.std.specs.Prelude.{◌≡◌, ℕ, ◌-◌, ◌^◌, ◌<◌, ◌≤◌, true, length, All}
+use Rattle.std.specs.Prelude.{◌≡◌, ℕ, ◌-◌, ◌^◌, ◌<◌, ◌≤◌, true, length, slice_index, All}
 use Rattle.std.specs.Option.{ForSome}
 use Rattle.ink_base.specs.declared.event.Event.{Event}
 use Rattle.ink_base.specs.declared.event.Origin.TheVariants as origins
@@ -15,6 +15,11 @@ use Rattle.never_cut.specs.Entries.{Readings, readings_of}
 pub record AreReadings (program : Program) (readings : Readings) : Type 0 where
   pub count : length readings ≡ length program.sources
   pub few : (i : ℕ) → length (readings_of readings i) ≤ 65535
+
+-- no list of readings is too long, and each reading has 32 bits
+pub record AreShort (readings : Readings) : Type 0 where
+  pub few : (i : ℕ) → length (readings_of readings i) ≤ 65535
+  pub values : (i k : ℕ) → slice_index (readings_of readings i) k < 2 ^ 32
 
 -- as many of each part as the program declares
 pub record HasParts (program : Program) (m : Model) : Type 0 where

@@ -2,6 +2,7 @@
 
 ghost use Rattle.std.specs.Prelude.{◌≡◌, ◌^◌, ◌<◌, length, take, IfOk, IfErr};
 ghost use Rattle.never_cut.specs.Journal.{IsLegal, after};
+ghost use Rattle.never_cut.specs.Laws.{EachEventOnce, ReadingsInOrder, StampsByCommits, StatesByCommits};
 ghost use Rattle.never_cut.specs.Replay.{TellsIllegal};
 ghost use Rattle.never_cut.specs.Within.{AreReadings};
 
@@ -25,6 +26,13 @@ pub fn replay(
     requires few { length entries.now < 2 ^ 32 }
     ensures legal { IfOk result (λ _. IsLegal program.now readings.now entries.now) }
     ensures state { IfOk result (λ m. m ≡ after program.now readings.now entries.now) }
+
+    // What every accepted list tells: each reading is settled once and in order; each event of a queue is finished once and in order, or is
+    // still held; a thread's state is what its own commits made of it; each output is stamped with the number of a commit of its thread.
+    ensures in_order { IfOk result (λ _. ReadingsInOrder program.now readings.now entries.now) }
+    ensures each_once { IfOk result (λ _. EachEventOnce program.now readings.now entries.now) }
+    ensures states { IfOk result (λ _. StatesByCommits program.now readings.now entries.now) }
+    ensures stamps { IfOk result (λ _. StampsByCommits program.now readings.now entries.now) }
 
     // An index is told exactly of the first entry that isn't legal.
     ensures illegal { IfErr result (TellsIllegal program.now readings.now entries.now) }

@@ -1,10 +1,6 @@
 -- The law, from the first board on.
 use Rattle.kernel_core.proofs.Firsts.{every_prefix}
-use Rattle.kernel_core.proofs.Settled.{every_reading}
 use Rattle.kernel_core.proofs.laws.boards_stand.Goals as goal
 
 pub returns-clause-stands : goal.returns-clause-stands
 returns-clause-stands c = every_prefix
-
-pub returns-clause-in_order : goal.returns-clause-in_order
-returns-clause-in_order c = every_reading

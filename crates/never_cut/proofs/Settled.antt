@@ -1,39 +1,19 @@
 -- Every legal journal settles the readings of each source in order.
-use Rattle.std.proofs.Common.{◌≡◌, ◌⊎◌, inl, inr, ℕ, zero, suc, ◌+◌, ◌<◌, ◌==◌, cond, Bool, true, false, List, [], ◌∷◌, ◌++◌, length, map, get_or, set, Option, Some, None, refl, sym, ap, ◌∙◌, subst, arith, length-set}
+use Rattle.std.proofs.Common.{◌≡◌, ◌⊎◌, inl, inr, ℕ, zero, suc, ◌+◌, ◌<◌, ◌==◌, cond, Bool, List, [], ◌∷◌, ◌++◌, length, map, get_or, set, refl, sym, ap, ◌∙◌, subst, arith, length-set}
 use Rattle.std.specs.List.{range_with_len}
 use Rattle.std.proofs.lemmas.Bool.{cases_eq, eq-eqb, ne_eqb}
 use Rattle.std.proofs.lemmas.List.{length-map, get_or-set_same, get_or-set_other}
 use Rattle.ink_base.specs.declared.ids.ThreadId.{ThreadId}
-use Rattle.ink_base.specs.declared.event.Event.{Event}
 use Rattle.ink_base.specs.declared.entry.Entry.{Entry}
 use Rattle.ink_base.specs.declared.entry.Entry.TheVariants.{Push, Refuse, Skip, Tick, Scan, Look, Commit, Release}
 use Rattle.task_isa.specs.declared.program.Program.{Program}
 use Rattle.never_cut.specs.declared.model.Model.{Model}
-use Rattle.never_cut.specs.declared.scan_model.ScanModel.{ScanModel}
 use Rattle.never_cut.specs.declared.source_model.SourceModel.{SourceModel}
-use Rattle.never_cut.specs.State.{thread_of, source_of, is_running, no_source, open_model, open_source}
-use Rattle.never_cut.specs.Pending.{pending}
-use Rattle.never_cut.specs.Commit.{commit, committed, expired, ended, end_at, consumed, is_expired}
+use Rattle.never_cut.specs.State.{source_of, no_source, open_model, open_source}
 use Rattle.never_cut.specs.Entries.{Readings, Legal, effect, with_accepted, with_refused, with_skipped}
-use Rattle.never_cut.specs.Journal.{after_from, IsLegalFrom}
-use Rattle.kernel_core.specs.Settled.{settled_by, settled_from, EveryReadingInOrder}
-
--- a commit leaves the sources as they are
-commit_sources : (program : Program) (t : ℕ) (m : Model) → (commit program t m).sources ≡ m.sources
-commit_sources program t m = at_scan m.scan
-  where
-    at_end : (e : Event) (time : ℕ) (over running : Bool) → (cond over (expired t e m) (ended t e time (end_at program m t e time) (consumed running e m))).sources ≡ m.sources
-    at_end e time true running = refl
-    at_end e time false true = refl
-    at_end e time false false = refl
-
-    at_event : (time : ℕ) (o : Option Event) → (elim o as (λ (z : Option Event). Model) [ None ↦ m | Some e ↦ committed program t e time m ]).sources ≡ m.sources
-    at_event time None = refl
-    at_event time (Some e) = at_end e time (is_expired program m t time) (is_running (thread_of m t))
-
-    at_scan : (o : Option ScanModel) → (elim o as (λ (z : Option ScanModel). Model) [ None ↦ m | Some scan ↦ elim (pending program m t) [ None ↦ m | Some e ↦ committed program t e scan.time m ] ]).sources ≡ m.sources
-    at_scan None = refl
-    at_scan (Some scan) = at_event scan.time (pending program m t)
+use Rattle.never_cut.specs.Journal.{after_from, IsLegal, IsLegalFrom}
+use Rattle.never_cut.specs.Laws.{settled_by, gathered_from, ReadingsInOrder}
+use Rattle.never_cut.proofs.Commits.{commit-sources}
 
 -- an entry settles the next reading of source i, or none of it
 Settles : ℕ → Entry → Model → Model → Type 0
@@ -79,12 +59,12 @@ settles program readings i m (Tick by) count legal = (inl (refl, refl), count)
 settles program readings i m Scan count legal = (inl (refl, refl), count)
 settles program readings i m (Look t) count legal = (inl (refl, refl), count)
 settles program readings i m (Commit t) count legal =
-    let same = commit_sources program t.0 m in (inl (refl, ap (λ (xs : List SourceModel). (get_or xs i no_source).next) same), ap length same ∙ count)
+    let same = commit-sources program t.0 m in (inl (refl, ap (λ (xs : List SourceModel). (get_or xs i no_source).next) same), ap length same ∙ count)
 settles program readings i m (Release t) count legal = (inl (refl, refl), count)
 
 -- the settled readings are so many numbers from the first one on
 settled_are : (program : Program) (readings : Readings) (i : ℕ) (m : Model) (entries : List Entry) → HasSources program m → IsLegalFrom program readings m entries →
-    (n : ℕ) × ((source_of (after_from program readings m entries) i).next ≡ (source_of m i).next + n) × (settled_from program readings i m entries ≡ range_with_len (source_of m i).next n)
+    (n : ℕ) × ((source_of (after_from program readings m entries) i).next ≡ (source_of m i).next + n) × (gathered_from (settled_by i) program readings m entries ≡ range_with_len (source_of m i).next n)
 unfolding Settles
 settled_are program readings i m [] count legal = (0, (let e : (source_of m i).next ≡ (source_of m i).next + 0 = omega arith in e), refl)
 settled_are program readings i m (e ∷ entries) count legal =
@@ -92,17 +72,17 @@ settled_are program readings i m (e ∷ entries) count legal =
     joined one.0 (settled_are program readings i (effect program readings m e) entries one.1 legal.1)
   where
     joined : Settles i e m (effect program readings m e) →
-        (n : ℕ) × ((source_of (after_from program readings (effect program readings m e) entries) i).next ≡ (source_of (effect program readings m e) i).next + n) × (settled_from program readings i (effect program readings m e) entries ≡ range_with_len (source_of (effect program readings m e) i).next n) →
-        (n : ℕ) × ((source_of (after_from program readings (effect program readings m e) entries) i).next ≡ (source_of m i).next + n) × (settled_by i e m ++ settled_from program readings i (effect program readings m e) entries ≡ range_with_len (source_of m i).next n)
+        (n : ℕ) × ((source_of (after_from program readings (effect program readings m e) entries) i).next ≡ (source_of (effect program readings m e) i).next + n) × (gathered_from (settled_by i) program readings (effect program readings m e) entries ≡ range_with_len (source_of (effect program readings m e) i).next n) →
+        (n : ℕ) × ((source_of (after_from program readings (effect program readings m e) entries) i).next ≡ (source_of m i).next + n) × (settled_by i e m ++ gathered_from (settled_by i) program readings (effect program readings m e) entries ≡ range_with_len (source_of m i).next n)
     joined (inl none) rest = (
       rest.0,
       omega (arith, none.1, rest.1),
-      ap (λ (xs : List ℕ). xs ++ settled_from program readings i (effect program readings m e) entries) none.0 ∙ (rest.2 ∙ ap (λ (k : ℕ). range_with_len k rest.0) none.1),
+      ap (λ (xs : List ℕ). xs ++ gathered_from (settled_by i) program readings (effect program readings m e) entries) none.0 ∙ (rest.2 ∙ ap (λ (k : ℕ). range_with_len k rest.0) none.1),
     )
     joined (inr one) rest = (
       suc rest.0,
       omega (arith, one.1, rest.1),
-      ap (λ (xs : List ℕ). xs ++ settled_from program readings i (effect program readings m e) entries) one.0
+      ap (λ (xs : List ℕ). xs ++ gathered_from (settled_by i) program readings (effect program readings m e) entries) one.0
           ∙ ap (λ (xs : List ℕ). (source_of m i).next ∷ xs) (rest.2 ∙ ap (λ (k : ℕ). range_with_len k rest.0) (let h : (source_of (effect program readings m e) i).next ≡ (source_of m i).next + 1 = omega (arith, one.1) in h)),
     )
 
@@ -112,9 +92,9 @@ open_none (s ∷ sources) zero = refl
 open_none (s ∷ sources) (suc i) = open_none sources i
 
 -- from nothing settled on: all numbers below the next reading
-pub every_reading : EveryReadingInOrder
+pub readings_in_order : (program : Program) (readings : Readings) (journal : List Entry) → IsLegal program readings journal → ReadingsInOrder program readings journal
 unfolding HasSources
-every_reading program readings journal legal i lt =
+readings_in_order program readings journal legal i lt =
     let h = settled_are program readings i (open_model program) journal (length-map program.sources open_source) legal in
     let none = open_none program.sources i in
     h.2 ∙ (ap (λ (k : ℕ). range_with_len k h.0) none ∙ ap (range_with_len 0) (let n : h.0 ≡ (source_of (after_from program readings (open_model program) journal) i).next = omega (arith, h.1, none) in n))

@@ -1,0 +1,187 @@
+-- A thread's commits finish the events that were put into its queue, each once and in order.
+use Rattle.std.proofs.Common.{◌≡◌, ◌≢◌, inl, inr, ℕ, ◌<◌, Bool, true, false, List, [], ◌∷◌, ◌++◌, length, get_or, Option, Some, None, refl, sym, ap, ◌∙◌, subst, append_assoc}
+use Rattle.std.specs.Prelude.{◌&&◌, not, if◌then◌else◌}
+use Rattle.std.specs.Option.{ForSome}
+use Rattle.std.proofs.lemmas.Bool.{cases_eq, eq-eqb, ne_eqb}
+use Rattle.std.proofs.lemmas.List.{append-nil, length-map, get_or-set_other}
+use Rattle.std.proofs.lemmas.Grind.{get_or-set_at}
+use Rattle.std.proofs.Math.ListN.{get_or-map}
+use Rattle.ink_base.specs.declared.ids.ThreadId.{ThreadId}
+use Rattle.ink_base.specs.declared.event.Event.{Event}
+use Rattle.ink_base.specs.declared.entry.Entry.{Entry}
+use Rattle.ink_base.specs.declared.entry.Entry.TheVariants.{Push, Refuse, Skip, Tick, Scan, Look, Commit, Release}
+use Rattle.task_isa.specs.declared.program.Program.{Program}
+use Rattle.task_isa.specs.declared.program.ThreadDef.{ThreadDef}
+use Rattle.prog_check.specs.Lookup.{no_thread_def, thread_def, source_thread}
+use Rattle.never_cut.specs.declared.model.Model.{Model}
+use Rattle.never_cut.specs.declared.scan_model.ScanModel.{ScanModel}
+use Rattle.never_cut.specs.declared.thread_model.ThreadModel.{ThreadModel}
+use Rattle.never_cut.specs.State.{thread_of, is_running, unfinished, no_thread, open_model, open_thread}
+use Rattle.never_cut.specs.Pending.{pending}
+use Rattle.never_cut.specs.Commit.{commit}
+use Rattle.never_cut.specs.Entries.{Readings, Legal, IsCalm, effect, looked, next_event, fed_by, pushed, released}
+use Rattle.never_cut.specs.Journal.{after_from, IsLegal, IsLegalFrom}
+use Rattle.never_cut.specs.Laws.{gathered_from, queued_by, of_queue, finished_by, EachEventOnce}
+use Rattle.never_cut.proofs.Threads.{kept-set}
+use Rattle.never_cut.proofs.Commits.{Serves, serves, thread_committed, committed-own, commit-other, commit-count}
+use Rattle.never_cut.proofs.ThreadStates.{effect-count}
+use Rattle.never_cut.proofs.Turns.{IsInTurn, IsFirstOf, pushed_turn, released_turn, unfinished-pushed, unfinished-released, committed_turns, pending_of}
+
+-- each thread serves its queue in turn, and while a scan is there nothing is finished
+record AreInTurn (program : Program) (m : Model) : Type 0 where
+  pub count : length m.threads ≡ length program.threads
+  pub threads : (t : ℕ) → t < length program.threads → IsInTurn (thread_of m t)
+  pub calm : ForSome m.scan (λ scan. IsCalm program m)
+
+-- a state in which at most one thread has changed
+with_one : (program : Program) (m next : Model) (s : ℕ) (x : ThreadModel) → length next.threads ≡ length m.threads → (s < length m.threads → thread_of next s ≡ x) →
+    ((u : ℕ) → u ≢ s → thread_of next u ≡ thread_of m u) → (s < length program.threads → IsInTurn x) → ForSome next.scan (λ scan. IsCalm program next) →
+    AreInTurn program m → AreInTurn program next
+with_one program m next s x count own others turn calm h = record {
+  count = count ∙ h.count;
+  threads = λ t lt. elim (cases_eq t s) [
+    | inl is ↦
+        let known : s < length program.threads = subst (λ k. k < length program.threads) is lt in
+        subst (λ k. IsInTurn (thread_of next k)) (sym is) (subst IsInTurn (sym (own (rw h.count known))) (turn known))
+    | inr apart ↦ subst IsInTurn (sym (others t apart)) (h.threads t lt)
+  ];
+  calm = calm;
+}
+
+-- and one in which none has
+with_none : (program : Program) (m next : Model) → next.threads ≡ m.threads → ForSome next.scan (λ scan. IsCalm program next) → AreInTurn program m → AreInTurn program next
+with_none program m next same calm h = record {
+  count = ap length same ∙ h.count;
+  threads = λ t lt. subst (λ xs. IsInTurn (get_or xs t no_thread)) (sym same) (h.threads t lt);
+  calm = calm;
+}
+
+looked_calm : (Q : Type 0) (t : ThreadId) (o : Option ScanModel) → ForSome o (λ scan. Q) →
+    ForSome (elim o as (λ _. Option ScanModel) [ None ↦ None | Some scan ↦ Some (looked t scan) ]) (λ scan. Q)
+looked_calm Q t None calm scan is = absurd (cc)
+looked_calm Q t (Some found) calm scan is = calm found refl
+
+-- what a legal commit serves is the first event of the queue, where it is of the queue
+first_served : (program : Program) (m : Model) (t : ℕ) (s : Serves program m t) → t < length program.threads → AreInTurn program m → IsFirstOf (thread_of m t).held s.event
+first_served program m t s lt h = pending_of program m t s.scan s.event (h.threads t lt) (h.calm s.scan s.scanned t lt) s.scanned s.waits
+
+-- each legal entry leaves the threads in turn
+turn_step : (program : Program) (readings : Readings) (m : Model) (e : Entry) → AreInTurn program m → Legal program readings m e → AreInTurn program (effect program readings m e)
+turn_step program readings m (Push i) h legal =
+    let s : ℕ = source_thread program i.0 in
+    let x : ThreadModel = pushed (next_event readings m i.0) (fed_by program m i.0) in
+    with_one program m (effect program readings m (Push i)) (source_thread program i.0) x (effect-count program readings m (Push i))
+    (λ lt. get_or-set_at m.threads (source_thread program i.0) (source_thread program i.0) x no_thread refl lt)
+    (λ u apart. get_or-set_other m.threads (source_thread program i.0) u x no_thread apart)
+    (λ known. pushed_turn (next_event readings m i.0) (fed_by program m i.0) (h.threads (source_thread program i.0) known))
+    (λ scan is u known. kept-set (λ (y : ThreadModel). y.finished) m.threads (source_thread program i.0) u x refl ∙ h.calm scan is u known)
+    h
+turn_step program readings m (Refuse i) h legal = with_none program m (effect program readings m (Refuse i)) refl h.calm h
+turn_step program readings m (Skip i) h legal = with_none program m (effect program readings m (Skip i)) refl h.calm h
+turn_step program readings m (Tick by) h legal = with_none program m (effect program readings m (Tick by)) refl h.calm h
+turn_step program readings m Scan h legal = with_none program m (effect program readings m Scan) refl (λ scan is. legal) h
+turn_step program readings m (Look t) h legal = with_none program m (effect program readings m (Look t)) refl (looked_calm (IsCalm program m) t m.scan h.calm) h
+turn_step program readings m (Commit t) h legal =
+    let s = serves program readings m t legal in
+    with_one program m (commit program t.0 m) t.0 (thread_committed program t.0 s.event s.scan.time m) (commit-count program t.0 m)
+    (λ lt. ap (λ next. thread_of next t.0) s.makes ∙ committed-own program t.0 s.event s.scan.time m lt)
+    (λ u apart. commit-other program t.0 u m apart)
+    (λ known. (committed_turns program t.0 s.event s.scan.time m (h.calm s.scan s.scanned t.0 known) (first_served program m t.0 s known h)).0)
+    (λ scan is. absurd (let clash : None ≡ Some scan = sym (ap (λ (next : Model). next.scan) s.makes) ∙ is in cc))
+    h
+turn_step program readings m (Release t) h legal =
+    let x : ThreadModel = released (thread_of m t.0) in
+    with_one program m (effect program readings m (Release t)) t.0 x (effect-count program readings m (Release t))
+    (λ lt. get_or-set_at m.threads t.0 t.0 x no_thread refl lt)
+    (λ u apart. get_or-set_other m.threads t.0 u x no_thread apart)
+    (λ known. released_turn (thread_of m t.0) legal.1 (h.threads t.0 known))
+    (λ scan is. absurd (let clash : true ≡ false = sym legal.1 ∙ h.calm scan is t.0 legal.0 in cc))
+    h
+
+-- what was unfinished and what an entry puts into the queue is what it finishes and what is unfinished then
+Balances : Program → Readings → ℕ → Model → Entry → Type 0
+Balances program readings t m e =
+    unfinished (thread_of m t) ++ queued_by program readings t e m ≡ finished_by program t e m ++ unfinished (thread_of (effect program readings m e) t)
+
+own_commit : (program : Program) (readings : Readings) (t : ℕ) (m : Model) (u : ThreadId) → t < length program.threads → AreInTurn program m → Legal program readings m (Commit u) → u.0 ≡ t →
+    Balances program readings t m (Commit u)
+unfolding Balances
+own_commit program readings t m u lt h legal same =
+    let s : Serves program m t = subst (Serves program m) same (serves program readings m u legal) in
+    let x : ThreadModel = thread_committed program t s.event s.scan.time m in
+    let own : thread_of (commit program t m) t ≡ thread_committed program t s.event s.scan.time m =
+    ap (λ next. thread_of next t) s.makes ∙ committed-own program t s.event s.scan.time m (rw h.count lt) in
+    append-nil (unfinished (thread_of m t))
+    ∙ ((committed_turns program t s.event s.scan.time m (h.calm s.scan s.scanned t lt) (first_served program m t s lt h)).1
+    ∙ sym (ap (λ (b : Bool). (if b && not (is_running (thread_of (commit program t m) t)) then of_queue (pending program m t) else []) ++ unfinished (thread_of (commit program u.0 m) t)) (eq-eqb u.0 t same)
+    ∙ (ap (λ k. (if not (is_running (thread_of (commit program t m) t)) then of_queue (pending program m t) else []) ++ unfinished (thread_of (commit program k m) t)) same
+    ∙ (ap (λ (y : ThreadModel). (if not (is_running y) then of_queue (pending program m t) else []) ++ unfinished y) own
+    ∙ ap (λ (o : Option Event). (if not (is_running (thread_committed program t s.event s.scan.time m)) then of_queue o else []) ++ unfinished (thread_committed program t s.event s.scan.time m)) s.waits))))
+
+balance_step : (program : Program) (readings : Readings) (t : ℕ) (m : Model) (e : Entry) → t < length program.threads → AreInTurn program m → Legal program readings m e →
+    Balances program readings t m e
+unfolding Balances
+balance_step program readings t m (Push i) lt h legal =
+    let f : Event = next_event readings m i.0 in
+    let x : ThreadModel = pushed (next_event readings m i.0) (fed_by program m i.0) in
+    elim (cases_eq (source_thread program i.0) t) [
+      | inl is ↦
+          let own : thread_of (effect program readings m (Push i)) t ≡ pushed (next_event readings m i.0) (thread_of m t) =
+          get_or-set_at m.threads (source_thread program i.0) t x no_thread (sym is) (rw (is, h.count) lt) ∙ ap (λ k. pushed (next_event readings m i.0) (thread_of m k)) is in
+          rw (eq-eqb (source_thread program i.0) t is) (sym (ap unfinished own ∙ unfinished-pushed (next_event readings m i.0) (thread_of m t) (h.threads t lt)))
+      | inr apart ↦
+          rw (ne_eqb (source_thread program i.0) t apart)
+          (append-nil (unfinished (thread_of m t)) ∙ ap unfinished (sym (get_or-set_other m.threads (source_thread program i.0) t x no_thread (λ is. apart (sym is)))))
+    ]
+balance_step program readings t m (Refuse i) lt h legal = append-nil (unfinished (thread_of m t))
+balance_step program readings t m (Skip i) lt h legal = append-nil (unfinished (thread_of m t))
+balance_step program readings t m (Tick by) lt h legal = append-nil (unfinished (thread_of m t))
+balance_step program readings t m Scan lt h legal = append-nil (unfinished (thread_of m t))
+balance_step program readings t m (Look u) lt h legal = append-nil (unfinished (thread_of m t))
+balance_step program readings t m (Commit u) lt h legal =
+    elim (cases_eq u.0 t) [
+      | inl same ↦ own_commit program readings t m u lt h legal same
+      | inr apart ↦ rw (ne_eqb u.0 t apart) (append-nil (unfinished (thread_of m t)) ∙ ap unfinished (sym (commit-other program u.0 t m (λ is. apart (sym is)))))
+    ]
+balance_step program readings t m (Release u) lt h legal =
+    append-nil (unfinished (thread_of m t)) ∙ sym (kept-set unfinished m.threads u.0 t (released (thread_of m u.0)) (unfinished-released (thread_of m u.0) legal.1))
+
+balances : (program : Program) (readings : Readings) (t : ℕ) (m : Model) (entries : List Entry) → t < length program.threads → AreInTurn program m → IsLegalFrom program readings m entries →
+    unfinished (thread_of m t) ++ gathered_from (queued_by program readings t) program readings m entries
+    ≡ gathered_from (finished_by program t) program readings m entries ++ unfinished (thread_of (after_from program readings m entries) t)
+unfolding Balances
+balances program readings t m [] lt h legal = append-nil (unfinished (thread_of m t))
+balances program readings t m (e ∷ entries) lt h legal =
+    let next : Model = effect program readings m e in
+    let queued : List Event = gathered_from (queued_by program readings t) program readings (effect program readings m e) entries in
+    let done : List Event = gathered_from (finished_by program t) program readings (effect program readings m e) entries in
+    let last : List Event = unfinished (thread_of (after_from program readings (effect program readings m e) entries) t) in
+    let here : unfinished (thread_of m t) ++ queued_by program readings t e m ≡ finished_by program t e m ++ unfinished (thread_of next t) = balance_step program readings t m e lt h legal.0 in
+    let rest : unfinished (thread_of next t) ++ queued ≡ done ++ last =
+    balances program readings t (effect program readings m e) entries lt (turn_step program readings m e h legal.0) legal.1 in
+    sym (append_assoc (unfinished (thread_of m t)) (queued_by program readings t e m) queued)
+    ∙ (ap (λ xs. xs ++ queued) here
+    ∙ (append_assoc (finished_by program t e m) (unfinished (thread_of next t)) queued
+    ∙ (ap (λ xs. finished_by program t e m ++ xs) rest
+    ∙ sym (append_assoc (finished_by program t e m) done last))))
+
+open_in_turn : (d : ThreadDef) → IsInTurn (open_thread d)
+open_in_turn d = record {
+  finished = λ is. absurd (let clash : false ≡ true = is in cc);
+  clear = λ _. refl;
+  chain = λ runs. absurd (let clash : false ≡ true = runs in cc);
+}
+
+opens_in_turn : (program : Program) → AreInTurn program (open_model program)
+opens_in_turn program = record {
+  count = length-map program.threads open_thread;
+  threads = λ t lt. subst IsInTurn (sym (get_or-map open_thread program.threads t no_thread_def)) (open_in_turn (thread_def program t));
+  calm = λ scan is. absurd (let clash : None ≡ Some scan = is in cc);
+}
+
+-- from empty queues on
+pub each_event_once : (program : Program) (readings : Readings) (journal : List Entry) → IsLegal program readings journal → EachEventOnce program readings journal
+each_event_once program readings journal legal t lt =
+    let none : unfinished (thread_of (open_model program) t) ≡ [] = ap unfinished (get_or-map open_thread program.threads t no_thread_def) in
+    ap (λ xs. xs ++ gathered_from (queued_by program readings t) program readings (open_model program) journal) (sym none)
+    ∙ balances program readings t (open_model program) journal lt (opens_in_turn program) legal
