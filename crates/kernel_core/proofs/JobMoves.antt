@@ -12,7 +12,7 @@ use Rattle.power_trace.specs.declared.item.Item.{Item}
 use Rattle.power_trace.specs.Job.{JobParts, IsJob, IsOnBoard, IsRightCharge, AreReadings, item_turns, charge_turns}
 use Rattle.never_cut.specs.Entries.{readings_of}
 use Rattle.never_cut.specs.Plain.{IsPlain}
-use Rattle.never_cut.proofs.SoundSteps.{AreShort}
+use Rattle.never_cut.specs.Within.{AreShort}
 use Rattle.task_run.specs.Knows.{HasCode}
 use Rattle.kernel_core.specs.Board.{Setup, Move, Turn}
 use Rattle.kernel_core.specs.Holds.{IsSetup, BoardStands}

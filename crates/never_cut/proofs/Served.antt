@@ -1,6 +1,5 @@
 -- A thread's commits finish the events that were put into its queue, each once and in order.
-use Rattle.std.proofs.Common.{◌≡◌, ◌≢◌, inl, inr, ℕ, ◌<◌, Bool, true, false, List, [], ◌∷◌, ◌++◌, length, get_or, Option, Some, None, refl, sym, ap, ◌∙◌, subst, append_assoc}
-use Rattle.std.specs.Prelude.{◌&&◌, not, if◌then◌else◌}
+use Rattle.std.proofs.Common.{◌≡◌, ◌≢◌, inl, inr, ℕ, ◌<◌, true, false, List, [], ◌∷◌, ◌++◌, length, get_or, Option, Some, None, refl, sym, ap, ◌∙◌, subst, append_assoc}
 use Rattle.std.specs.Option.{ForSome}
 use Rattle.std.proofs.lemmas.Bool.{cases_eq, eq-eqb, ne_eqb}
 use Rattle.std.proofs.lemmas.List.{append-nil, length-map, get_or-set_other}
@@ -16,16 +15,15 @@ use Rattle.prog_check.specs.Lookup.{no_thread_def, thread_def, source_thread}
 use Rattle.never_cut.specs.declared.model.Model.{Model}
 use Rattle.never_cut.specs.declared.scan_model.ScanModel.{ScanModel}
 use Rattle.never_cut.specs.declared.thread_model.ThreadModel.{ThreadModel}
-use Rattle.never_cut.specs.State.{thread_of, is_running, unfinished, no_thread, open_model, open_thread}
-use Rattle.never_cut.specs.Pending.{pending}
+use Rattle.never_cut.specs.State.{thread_of, unfinished, no_thread, open_model, open_thread}
 use Rattle.never_cut.specs.Commit.{commit}
 use Rattle.never_cut.specs.Entries.{Readings, Legal, IsCalm, effect, looked, next_event, fed_by, pushed, released}
 use Rattle.never_cut.specs.Journal.{after_from, IsLegal, IsLegalFrom}
-use Rattle.never_cut.specs.Laws.{gathered_from, queued_by, of_queue, finished_by, EachEventOnce}
+use Rattle.never_cut.specs.Laws.{gathered_from, queued_by, finished_by, EachEventOnce}
 use Rattle.never_cut.proofs.Threads.{kept-set}
 use Rattle.never_cut.proofs.Commits.{Serves, serves, thread_committed, committed-own, commit-other, commit-count}
 use Rattle.never_cut.proofs.ThreadStates.{effect-count}
-use Rattle.never_cut.proofs.Turns.{IsInTurn, IsFirstOf, pushed_turn, released_turn, unfinished-pushed, unfinished-released, committed_turns, pending_of}
+use Rattle.never_cut.proofs.Turns.{IsInTurn, IsFirstOf, Turns, pushed_turn, released_turn, unfinished-pushed, unfinished-released, committed_turns, pending_of}
 
 -- each thread serves its queue in turn, and while a scan is there nothing is finished
 record AreInTurn (program : Program) (m : Model) : Type 0 where
@@ -68,7 +66,6 @@ first_served program m t s lt h = pending_of program m t s.scan s.event (h.threa
 -- each legal entry leaves the threads in turn
 turn_step : (program : Program) (readings : Readings) (m : Model) (e : Entry) → AreInTurn program m → Legal program readings m e → AreInTurn program (effect program readings m e)
 turn_step program readings m (Push i) h legal =
-    let s : ℕ = source_thread program i.0 in
     let x : ThreadModel = pushed (next_event readings m i.0) (fed_by program m i.0) in
     with_one program m (effect program readings m (Push i)) (source_thread program i.0) x (effect-count program readings m (Push i))
     (λ lt. get_or-set_at m.threads (source_thread program i.0) (source_thread program i.0) x no_thread refl lt)
@@ -103,26 +100,20 @@ Balances : Program → Readings → ℕ → Model → Entry → Type 0
 Balances program readings t m e =
     unfinished (thread_of m t) ++ queued_by program readings t e m ≡ finished_by program t e m ++ unfinished (thread_of (effect program readings m e) t)
 
-own_commit : (program : Program) (readings : Readings) (t : ℕ) (m : Model) (u : ThreadId) → t < length program.threads → AreInTurn program m → Legal program readings m (Commit u) → u.0 ≡ t →
-    Balances program readings t m (Commit u)
+own_commit : (program : Program) (readings : Readings) (m : Model) (t : ThreadId) → t.0 < length program.threads → AreInTurn program m → Legal program readings m (Commit t) →
+    Balances program readings t.0 m (Commit t)
 unfolding Balances
-own_commit program readings t m u lt h legal same =
-    let s : Serves program m t = subst (Serves program m) same (serves program readings m u legal) in
-    let x : ThreadModel = thread_committed program t s.event s.scan.time m in
-    let own : thread_of (commit program t m) t ≡ thread_committed program t s.event s.scan.time m =
-    ap (λ next. thread_of next t) s.makes ∙ committed-own program t s.event s.scan.time m (rw h.count lt) in
-    append-nil (unfinished (thread_of m t))
-    ∙ ((committed_turns program t s.event s.scan.time m (h.calm s.scan s.scanned t lt) (first_served program m t s lt h)).1
-    ∙ sym (ap (λ (b : Bool). (if b && not (is_running (thread_of (commit program t m) t)) then of_queue (pending program m t) else []) ++ unfinished (thread_of (commit program u.0 m) t)) (eq-eqb u.0 t same)
-    ∙ (ap (λ k. (if not (is_running (thread_of (commit program t m) t)) then of_queue (pending program m t) else []) ++ unfinished (thread_of (commit program k m) t)) same
-    ∙ (ap (λ (y : ThreadModel). (if not (is_running y) then of_queue (pending program m t) else []) ++ unfinished y) own
-    ∙ ap (λ (o : Option Event). (if not (is_running (thread_committed program t s.event s.scan.time m)) then of_queue o else []) ++ unfinished (thread_committed program t s.event s.scan.time m)) s.waits))))
+own_commit program readings m t lt h legal =
+    let s = serves program readings m t legal in
+    let x : ThreadModel = thread_committed program t.0 s.event s.scan.time m in
+    let own : thread_of (commit program t.0 m) t.0 ≡ x = ap (λ next. thread_of next t.0) s.makes ∙ committed-own program t.0 s.event s.scan.time m (rw h.count lt) in
+    let turns : Turns s.event (thread_of m t.0) x = committed_turns program t.0 s.event s.scan.time m (h.calm s.scan s.scanned t.0 lt) (first_served program m t.0 s lt h) in
+    append-nil (unfinished (thread_of m t.0)) ∙ rw (eq-eqb t.0 t.0 refl, own, s.waits) turns.1
 
 balance_step : (program : Program) (readings : Readings) (t : ℕ) (m : Model) (e : Entry) → t < length program.threads → AreInTurn program m → Legal program readings m e →
     Balances program readings t m e
 unfolding Balances
 balance_step program readings t m (Push i) lt h legal =
-    let f : Event = next_event readings m i.0 in
     let x : ThreadModel = pushed (next_event readings m i.0) (fed_by program m i.0) in
     elim (cases_eq (source_thread program i.0) t) [
       | inl is ↦
@@ -140,7 +131,7 @@ balance_step program readings t m Scan lt h legal = append-nil (unfinished (thre
 balance_step program readings t m (Look u) lt h legal = append-nil (unfinished (thread_of m t))
 balance_step program readings t m (Commit u) lt h legal =
     elim (cases_eq u.0 t) [
-      | inl same ↦ own_commit program readings t m u lt h legal same
+      | inl same ↦ subst (λ k. Balances program readings k m (Commit u)) same (own_commit program readings m u legal.0 h legal)
       | inr apart ↦ rw (ne_eqb u.0 t apart) (append-nil (unfinished (thread_of m t)) ∙ ap unfinished (sym (commit-other program u.0 t m (λ is. apart (sym is)))))
     ]
 balance_step program readings t m (Release u) lt h legal =

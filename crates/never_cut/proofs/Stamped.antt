@@ -15,14 +15,8 @@ use Rattle.never_cut.specs.State.{open_model}
 use Rattle.never_cut.specs.Outputs.{stamped}
 use Rattle.never_cut.specs.Entries.{Readings, Legal, effect}
 use Rattle.never_cut.specs.Journal.{after_from, IsLegal, IsLegalFrom}
-use Rattle.never_cut.specs.Laws.{committing, commits_in, StampsByCommits}
+use Rattle.never_cut.specs.Laws.{committing, commits_in, IsStamped, StampsByCommits}
 use Rattle.never_cut.proofs.Commits.{committed-outputs, outs_of, serves}
-
--- the output has the number of one of these commits, which is of its thread
-record IsNumbered (commits : List ThreadId) (o : Output) : Type 0 where
-  pub before : ℕ
-  pub number : o.stamp ≡ before + 1
-  pub own : slice_get commits before ≡ Some o.thread
 
 get-append : {X : Type 0} (xs ys : List X) (n : ℕ) (x : X) → slice_get xs n ≡ Some x → slice_get (xs ++ ys) n ≡ Some x
 get-append [] ys n x is = absurd (let clash : None ≡ Some x = is in cc)
@@ -41,18 +35,18 @@ get-within (y ∷ xs) (suc n) x is = let rest = get-within xs n x is in omega ar
 -- the outputs so far have the numbers of these commits
 record AreNumbered (commits : List ThreadId) (m : Model) : Type 0 where
   pub count : length commits ≡ m.commits
-  pub each : All (IsNumbered commits) m.outputs
+  pub each : All (IsStamped commits) m.outputs
   pub ordered : IsNonDecreasingBy (λ (o : Output). o.stamp) m.outputs
 
-more_numbered : (commits more : List ThreadId) (outputs : List Output) → All (IsNumbered commits) outputs → All (IsNumbered (commits ++ more)) outputs
+more_numbered : (commits more : List ThreadId) (outputs : List Output) → All (IsStamped commits) outputs → All (IsStamped (commits ++ more)) outputs
 more_numbered commits more outputs each k d lt =
     let o = each k d lt in record { before = o.before; number = o.number; own = get-append commits more o.before _ o.own }
 
 -- those of a new commit
-stamped_numbered : (commits : List ThreadId) (t : ThreadId) (outs : List ℕ) → All (IsNumbered (commits ++ t ∷ [])) (stamped (length commits + 1) t.0 outs)
-stamped_numbered commits t [] = All-nil (IsNumbered (commits ++ t ∷ []))
+stamped_numbered : (commits : List ThreadId) (t : ThreadId) (outs : List ℕ) → All (IsStamped (commits ++ t ∷ [])) (stamped (length commits + 1) t.0 outs)
+stamped_numbered commits t [] = All-nil (IsStamped (commits ++ t ∷ []))
 stamped_numbered commits t (v ∷ outs) =
-    All-cons (IsNumbered (commits ++ t ∷ [])) (record { stamp = length commits + 1; thread = t; value = v }) (stamped (length commits + 1) t.0 outs)
+    All-cons (IsStamped (commits ++ t ∷ [])) (record { stamp = length commits + 1; thread = t; value = v }) (stamped (length commits + 1) t.0 outs)
     (record { before = length commits; number = refl; own = get-last commits t }) (stamped_numbered commits t outs)
 
 same_stamp : (stamp t : ℕ) (outs : List ℕ) → All (λ (o : Output). o.stamp ≡ stamp) (stamped stamp t outs)
@@ -85,8 +79,8 @@ commit_numbered program readings commits m t h legal =
     ap (λ (next : Model). next.outputs) s.makes ∙ committed-outputs program t.0 s.event s.scan.time m ∙ ap (λ n. m.outputs ++ stamped (n + 1) t.0 outs) (sym h.count) in
     record {
       count = length-append commits (t ∷ []) ∙ ap (λ n. n + 1) h.count ∙ ap (λ (next : Model). next.commits) (sym s.makes);
-      each = subst (All (IsNumbered (commits ++ t ∷ []))) (sym is)
-          (All-append (IsNumbered (commits ++ t ∷ [])) m.outputs (stamped (length commits + 1) t.0 outs) (more_numbered commits (t ∷ []) m.outputs h.each) (stamped_numbered commits t outs));
+      each = subst (All (IsStamped (commits ++ t ∷ []))) (sym is)
+          (All-append (IsStamped (commits ++ t ∷ [])) m.outputs (stamped (length commits + 1) t.0 outs) (more_numbered commits (t ∷ []) m.outputs h.each) (stamped_numbered commits t outs));
       ordered = subst (IsNonDecreasingBy (λ (o : Output). o.stamp)) (sym is)
           (ordered-append (λ (o : Output). o.stamp) m.outputs (stamped (length commits + 1) t.0 outs) (length commits + 1) h.ordered
           (λ k d lt. let o = h.each k d lt in let within = get-within commits o.before _ o.own in omega (arith, o.number, within))
@@ -98,7 +92,7 @@ same_outputs commits m next outputs count h =
     subst (λ c. AreNumbered c next) (sym (append-nil commits))
     (record {
       count = h.count ∙ sym count;
-      each = subst (All (IsNumbered commits)) (sym outputs) h.each;
+      each = subst (All (IsStamped commits)) (sym outputs) h.each;
       ordered = subst (IsNonDecreasingBy (λ (o : Output). o.stamp)) (sym outputs) h.ordered;
     })
 
@@ -123,9 +117,5 @@ numbered_after program readings commits m (e ∷ entries) h legal =
 pub stamps_by_commits : (program : Program) (readings : Readings) (journal : List Entry) → IsLegal program readings journal → StampsByCommits program readings journal
 stamps_by_commits program readings journal legal =
     let h = numbered_after program readings [] (open_model program) journal
-    (record { count = refl; each = All-nil (IsNumbered []); ordered = λ i j d le lt. absurd (omega arith) }) legal in
-    record {
-      commits = h.count;
-      each = λ k d lt. let o = h.each k d lt in record { before = o.before; number = o.number; own = o.own };
-      ordered = h.ordered;
-    }
+    (record { count = refl; each = All-nil (IsStamped []); ordered = λ i j d le lt. absurd (omega arith) }) legal in
+    record { commits = h.count; each = h.each; ordered = h.ordered }

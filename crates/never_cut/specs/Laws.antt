@@ -95,14 +95,14 @@ committing _ = []
 abbrev pub commits_in : List Entry → List ThreadId
 commits_in journal = flat_map committing journal
 
--- the output's stamp is the number, from 1 on, of a commit of its thread
-pub record IsStamped (journal : List Entry) (o : Output) : Type 0 where
+-- the output's stamp is the number, from 1 on, of one of these commits, which is of its thread
+pub record IsStamped (commits : List ThreadId) (o : Output) : Type 0 where
   pub before : ℕ
   pub number : o.stamp ≡ before + 1
-  pub own : slice_get (commits_in journal) before ≡ Some o.thread
+  pub own : slice_get commits before ≡ Some o.thread
 
 -- each output has the number of a commit of its thread, and the numbers don't fall along the outputs
 pub record StampsByCommits (program : Program) (readings : Readings) (journal : List Entry) : Type 0 where
   pub commits : length (commits_in journal) ≡ (after program readings journal).commits
-  pub each : All (IsStamped journal) (after program readings journal).outputs
+  pub each : All (IsStamped (commits_in journal)) (after program readings journal).outputs
   pub ordered : IsNonDecreasingBy (λ (o : Output). o.stamp) (after program readings journal).outputs
