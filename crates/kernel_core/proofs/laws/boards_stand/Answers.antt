@@ -2,5 +2,5 @@
 use Rattle.kernel_core.proofs.Firsts.{every_prefix}
 use Rattle.kernel_core.proofs.laws.boards_stand.Goals as goal
 
-pub returns-clause-stands : goal.returns-clause-stands
-returns-clause-stands c = every_prefix
+pub returns : goal.returns
+returns c = record { stands = every_prefix }
