@@ -31,7 +31,8 @@ pub fn prepare(alloc: Global, job: Job) -> Result<Core, NoMemory>
     ensures board { IfOk result (λ core. core.board ≡ first_board (setup_of job) core.board.words (length job.charges)) }
     ensures stands { IfOk result (λ core. BoardStands (setup_of core.job) core.board) }
 
-    // The board can read its program back from the code words: what its later accesses rest on.
+    // What the claims on its run rest on: the limits of the job, and that the code's words are read as its instructions.
+    ensures limits { IfOk result (λ _. IsJob job) }
     ensures code { IfOk result (λ _. HasCode job.program) }
 {
     let start = Start::of(alloc, &job)?;

@@ -1,0 +1,3 @@
+pub mod PlainJobs
+pub mod Runs
+pub mod OneWord

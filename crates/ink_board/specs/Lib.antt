@@ -1,0 +1,5 @@
+pub mod Words
+pub mod Exits
+pub mod Outside
+pub mod Run
+pub mod Answers

@@ -1,0 +1,51 @@
+-- The run of a job, its record, and its text.
+use Rattle.std.specs.Prelude.{◌≡◌, ℕ, ◌^◌, ◌<◌, List, ◌++◌, length}
+use Rattle.std.specs.List.{flat_map}
+use Rattle.ink_base.specs.declared.entry.Entry.{Entry}
+use Rattle.ink_layout.specs.Image.{IsFirstImage}
+use Rattle.power_trace.specs.Job.{JobParts}
+use Rattle.never_cut.specs.Journal.{after, IsLegal}
+use Rattle.never_cut.specs.Laws.{ReadingsInOrder, EachEventOnce, StatesByCommits, StampsByCommits}
+use Rattle.kernel_core.specs.declared.run_record.RunRecord.{RunRecord}
+use Rattle.kernel_core.specs.declared.charge_record.ChargeRecord.{ChargeRecord}
+use Rattle.kernel_core.specs.Board.{Board, journal}
+use Rattle.kernel_core.specs.Holds.{BoardStands}
+use Rattle.kernel_core.specs.Listed.{run, run_first}
+use Rattle.kernel_core.specs.Core.{setup_of}
+use Rattle.ink_report.specs.Report as report
+
+-- the board of a job after the first so many cuts and turns that it lists, from these words on, and after all
+abbrev pub board_after : JobParts → List ℕ → ℕ → Board
+board_after job words n = run_first (setup_of job) words job.charges n
+
+abbrev pub board_run : JobParts → List ℕ → Board
+board_run job words = run (setup_of job) words job.charges
+
+abbrev pub entries_of : ChargeRecord → List Entry
+entries_of charge = charge.entries
+
+-- the one journal: the entries of all charges, in order
+abbrev pub journal_in : RunRecord → List Entry
+journal_in r = flat_map entries_of r.charges
+
+-- The board ran the job from the words of its first image on, and the record is what it left behind. After each access and each cut the
+-- words stood for the never-cut kernel after the journal so far, which was legal and a beginning of the record's. The record's journal is
+-- legal, and keeps the laws of legal journals.
+pub record IsRunOf (job : JobParts) (r : RunRecord) : Type 0 where
+  pub job_is : r.job ≡ job
+  pub first : List ℕ
+  pub image : IsFirstImage job.program first
+  pub charges : r.charges ≡ (board_run job first).charges
+  pub words : r.words ≡ (board_run job first).words
+  pub stands : (n : ℕ) → BoardStands (setup_of job) (board_after job first n)
+  pub grows : (n : ℕ) → (more : List Entry) × (journal_in r ≡ journal (board_after job first n) ++ more)
+  pub legal : IsLegal job.program job.readings (journal_in r)
+  pub few : length (journal_in r) < 2 ^ 32
+  pub in_order : ReadingsInOrder job.program job.readings (journal_in r)
+  pub each_once : EachEventOnce job.program job.readings (journal_in r)
+  pub states : StatesByCommits job.program job.readings (journal_in r)
+  pub stamps : StampsByCommits job.program job.readings (journal_in r)
+
+-- the text of a record: the outputs that its journal committed, and the summary
+abbrev pub text_of : RunRecord → List ℕ
+text_of r = report.run_text r.job.program (after r.job.program r.job.readings (journal_in r)) (journal_in r) (length r.job.charges)
