@@ -5,7 +5,10 @@ mod board;
 mod complaint;
 mod finish;
 mod report;
-mod run;mod words;
+mod run;
+#[cfg(test)]
+mod tests;
+mod words;
 
 use board::board;
 use complaint::{Complaint, exit_code};
