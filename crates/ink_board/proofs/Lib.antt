@@ -1,3 +1,6 @@
-pub mod PlainJobs
 pub mod Runs
 pub mod OneWord
+pub mod PlainParts
+pub mod LaterLines
+pub mod CleanTexts
+pub mod Stops

@@ -1,5 +1,5 @@
 -- What each status tells.
-use Rattle.std.specs.Prelude.{◌≡◌, ℕ, List, Option, Some, None, Ok, Err}
+use Rattle.std.specs.Prelude.{◌≡◌, ℕ, List, Option, Some, None}
 use Rattle.std.specs.Io.KnownBytes.{Appends}
 use Rattle.ink_base.specs.Lines.{Word}
 use Rattle.ink_base.specs.declared.status.Status.{Status}
@@ -7,23 +7,23 @@ use Rattle.ink_base.specs.declared.status.Status.TheVariants.{Done, Usage, Refus
 use Rattle.ink_io.specs.Bytes.{TookCount, TookAtMost, AppendsPrefix}
 use Rattle.ink_io.specs.Counts.{Rose}
 use Rattle.power_trace.specs.Job.{JobParts}
-use Rattle.power_trace.specs.Parse.{job_at}
 use Rattle.kernel_core.specs.declared.run_record.RunRecord.{RunRecord}
 use Rattle.ink_board.specs.declared.finish.Record.{Record}
 use Rattle.ink_board.specs.declared.finish.Record.TheVariants.{Run}
 use Rattle.ink_board.specs.Words.{IsRun}
 use Rattle.ink_board.specs.Outside.{SourceState, SinkState, GaveText}
 use Rattle.ink_board.specs.Run.{IsRunOf, text_of}
+use Rattle.ink_board.specs.Later.{RunsJob, RefusesText}
 
 -- the board ran the job that the text is
 pub record RanText (text : List ℕ) (r : RunRecord) : Type 0 where
   pub job : JobParts
-  pub reads_as : job_at text ≡ Ok job
+  pub runs : RunsJob text job
   pub ran : IsRunOf job r
 
--- why the job of a text didn't run: its first fault, or want of memory
+-- why the job of a text didn't run: the text is refused, or memory is
 abbrev pub StopsText : List ℕ → Status → Type 0
-StopsText text (Refused fault) = job_at text ≡ Err fault
+StopsText text (Refused fault) = RefusesText text fault
 StopsText text NoMemory = Unit {0}
 StopsText text _ = ⊥
 
@@ -35,7 +35,7 @@ OfText before now P = (text : List ℕ) × GaveText before now text × P text
 abbrev pub StopsRun : SourceState → SourceState → Status → Type 0
 StopsRun before now ReadFault = Rose before.faults now.faults × TookAtMost before.left now.left 4194304
 StopsRun before now TooLong = (now.faults ≡ before.faults) × TookCount before.left now.left 4194305
-StopsRun before now (Refused fault) = OfText before now (λ text. job_at text ≡ Err fault)
+StopsRun before now (Refused fault) = OfText before now (λ text. RefusesText text fault)
 StopsRun before now NoMemory = now.faults ≡ before.faults
 StopsRun before now _ = ⊥
 

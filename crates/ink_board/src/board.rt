@@ -16,7 +16,8 @@ use std::alloc::Global;
 /// the sink.
 ///
 /// `Usage`: the words are no command, and nothing was read. `ReadFault`: a read failed. `TooLong`: the source gave a byte more than a job may
-/// have. `Refused`: the bytes to the end of the source have a fault, and this is the first one with its line. `NoMemory`: memory was refused.
+/// have. `Refused`: the bytes to the end of the source have a fault, and this is the first one with its line; or they have none, and the
+/// board doesn't run their program yet, which is `NotYet` at the first line that declares what it doesn't run. `NoMemory`: memory was refused.
 /// After all of these nothing was written, and nothing is kept. `Done`: the board ran the job that the bytes are; its record is kept, and
 /// the whole text was written. `WriteFault`: the same, but a write failed, and a part of the text from its beginning was written.
 pub fn board<S: Source, K: Sink>(

@@ -4,6 +4,7 @@
 mod board;
 mod complaint;
 mod finish;
+mod later;
 mod report;
 mod run;
 #[cfg(test)]
