@@ -1,6 +1,7 @@
 pub mod Labels
-pub mod Ops
 pub mod Named
+pub mod Ops
+pub mod Operands
 pub mod Forms
 pub mod Task
 pub mod Section

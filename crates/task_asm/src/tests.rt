@@ -180,7 +180,7 @@ fn faults_in_a_task(rt: HostRuntime) -> Result<(), Fail> {
         ("li r0 12345678901", 4, Cause::BadNumber),
         ("add r2 r2", 4, Cause::Missing),
         ("add r2 r2 r2 r2", 4, Cause::UnknownWord),
-        ("mul", 4, Cause::NotYet),
+        ("mul", 4, Cause::Missing),
         ("pipe", 4, Cause::UnknownWord),
         ("add:\nend:\nadd: x", 6, Cause::Duplicate),
         ("a::", 4, Cause::UnknownWord),

@@ -1,0 +1,74 @@
+-- The operands of instructions.
+use Rattle.std.specs.Prelude.{ℕ, ◌-◌, ◌&&◌, List, [], ◌∷◌, Result, Ok, Err, nat_le, ◌==◌, if◌then◌else◌}
+use Rattle.ink_base.specs.Lines.{Word}
+use Rattle.ink_base.specs.Numbers.{is_digit}
+use Rattle.ink_base.specs.declared.fault.Cause.{Cause}
+use Rattle.ink_base.specs.declared.fault.Cause.TheVariants.{UnknownWord}
+use Rattle.ink_base.specs.Gives.{◌>>=◌}
+use Rattle.ink_base.specs.Checks.{word_in, number_in, end_in}
+use Rattle.task_isa.specs.declared.instr.Instr.{Instr}
+use Rattle.task_isa.specs.declared.instr.Instr.TheVariants.{Li, Done}
+use Rattle.task_asm.specs.declared.op.Op.{Op}
+use Rattle.task_asm.specs.declared.op.Op.TheVariants as ops
+use Rattle.task_asm.specs.Ops.{one_instr, two_instr, three_instr}
+
+-- the register of a word, r0 to r15
+unfoldable pub register_of : Word → Result ℕ Cause
+register_of [] = Err UnknownWord
+register_of (r ∷ []) = Err UnknownWord
+register_of (r ∷ d ∷ []) = if r == 114 && is_digit d then Ok (d - 48) else Err UnknownWord
+register_of (r ∷ t ∷ d ∷ []) = if r == 114 && t == 49 && nat_le 48 d && nat_le d 53 then Ok (d - 38) else Err UnknownWord
+register_of (r ∷ t ∷ d ∷ b ∷ w) = Err UnknownWord
+
+unfoldable pub register_in : List Word → Result (ℕ × List Word) Cause
+register_in ws = do
+  w ← word_in ws
+  r ← register_of w.0
+  Ok (r, w.1)
+
+-- a register, and the end of the line
+unfoldable pub one_in : List Word → Result ℕ Cause
+one_in ws = do
+  a ← register_in ws
+  e ← end_in a.1
+  Ok a.0
+
+-- two registers, and the end of the line
+unfoldable pub two_in : List Word → Result (ℕ × ℕ) Cause
+two_in ws = do
+  a ← register_in ws
+  b ← one_in a.1
+  Ok (a.0, b)
+
+-- three registers, and the end of the line
+unfoldable pub three_in : List Word → Result (ℕ × ℕ × ℕ) Cause
+three_in ws = do
+  a ← register_in ws
+  b ← two_in a.1
+  Ok (a.0, b.0, b.1)
+
+-- a register and a number of 32 bits, and the end of the line
+unfoldable pub constant_in : List Word → Result (ℕ × ℕ) Cause
+constant_in ws = do
+  a ← register_in ws
+  i ← number_in 0 4294967295 a.1
+  e ← end_in i.1
+  Ok (a.0, i.0)
+
+-- an instruction, by the words behind its first
+unfoldable pub instr_in : Op → List Word → Result Instr Cause
+instr_in ops.Li ws = do
+  x ← constant_in ws
+  Ok (Li x.0 x.1)
+instr_in (ops.One op) ws = do
+  a ← one_in ws
+  Ok (one_instr op a)
+instr_in (ops.Two op) ws = do
+  x ← two_in ws
+  Ok (two_instr op x.0 x.1)
+instr_in (ops.Three op) ws = do
+  x ← three_in ws
+  Ok (three_instr op x.0 x.1 x.2)
+instr_in ops.Done ws = do
+  e ← end_in ws
+  Ok Done
