@@ -4,4 +4,5 @@ pub mod Ops
 pub mod Operands
 pub mod Forms
 pub mod Task
+pub mod Targets
 pub mod Section

@@ -6,10 +6,14 @@ use Rattle.ink_base.specs.declared.fault.Cause.{Cause}
 use Rattle.ink_base.specs.declared.fault.Cause.TheVariants.{UnknownWord}
 use Rattle.ink_base.specs.Gives.{◌>>=◌}
 use Rattle.ink_base.specs.Checks.{word_in, number_in, end_in}
-use Rattle.task_isa.specs.declared.instr.Instr.{Instr}
 use Rattle.task_isa.specs.declared.instr.Instr.TheVariants.{Li, Done}
 use Rattle.task_asm.specs.declared.op.Op.{Op}
 use Rattle.task_asm.specs.declared.op.Op.TheVariants as ops
+use Rattle.task_asm.specs.declared.op.JumpOp.{JumpOp}
+use Rattle.task_asm.specs.declared.op.JumpOp.TheVariants as jumps
+use Rattle.task_asm.specs.declared.draft.DraftInstr.{DraftInstr}
+use Rattle.task_asm.specs.declared.draft.DraftInstr.TheVariants.{Ready, Jmp, Jz, Jnz}
+use Rattle.task_asm.specs.Named.{name_of}
 use Rattle.task_asm.specs.Ops.{one_instr, two_instr, three_instr}
 
 -- the register of a word, r0 to r15
@@ -55,20 +59,48 @@ constant_in ws = do
   e ← end_in i.1
   Ok (a.0, i.0)
 
+-- the name of a target that may come later, and the end of the line
+unfoldable pub target_in : List Word → Result Word Cause
+target_in ws = do
+  w ← word_in ws
+  name ← name_of w.0
+  e ← end_in w.1
+  Ok name
+
+-- a register and a target
+unfoldable pub register_target_in : List Word → Result (ℕ × Word) Cause
+register_target_in ws = do
+  a ← register_in ws
+  target ← target_in a.1
+  Ok (a.0, target)
+
+-- a jump, by the words behind its first
+unfoldable pub jump_in : JumpOp → List Word → Result DraftInstr Cause
+jump_in jumps.Jmp ws = do
+  target ← target_in ws
+  Ok (Jmp target)
+jump_in jumps.Jz ws = do
+  x ← register_target_in ws
+  Ok (Jz x.0 x.1)
+jump_in jumps.Jnz ws = do
+  x ← register_target_in ws
+  Ok (Jnz x.0 x.1)
+
 -- an instruction, by the words behind its first
-unfoldable pub instr_in : Op → List Word → Result Instr Cause
+unfoldable pub instr_in : Op → List Word → Result DraftInstr Cause
 instr_in ops.Li ws = do
   x ← constant_in ws
-  Ok (Li x.0 x.1)
+  Ok (Ready (Li x.0 x.1))
 instr_in (ops.One op) ws = do
   a ← one_in ws
-  Ok (one_instr op a)
+  Ok (Ready (one_instr op a))
 instr_in (ops.Two op) ws = do
   x ← two_in ws
-  Ok (two_instr op x.0 x.1)
+  Ok (Ready (two_instr op x.0 x.1))
 instr_in (ops.Three op) ws = do
   x ← three_in ws
-  Ok (three_instr op x.0 x.1 x.2)
+  Ok (Ready (three_instr op x.0 x.1 x.2))
+instr_in (ops.Jump op) ws = jump_in op ws
 instr_in ops.Done ws = do
   e ← end_in ws
-  Ok Done
+  Ok (Ready Done)

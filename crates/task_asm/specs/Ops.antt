@@ -8,13 +8,14 @@ use Rattle.ink_base.specs.declared.fault.Cause.TheVariants.{NotYet}
 use Rattle.task_isa.specs.declared.instr.Instr.{Instr}
 use Rattle.task_isa.specs.declared.instr.Instr.TheVariants.{Mov, Add, Sub, Mul, And, Or, Xor, Shl, Shr, Divu, Remu, Ltu, Eq, Ev, Kind, Num, Now, Ld, St, Out}
 use Rattle.task_asm.specs.declared.op.Op.{Op}
-use Rattle.task_asm.specs.declared.op.Op.TheVariants.{Li, One, Two, Three, Done}
+use Rattle.task_asm.specs.declared.op.Op.TheVariants.{Li, One, Two, Three, Jump, Done}
 use Rattle.task_asm.specs.declared.op.OneOp.{OneOp}
 use Rattle.task_asm.specs.declared.op.OneOp.TheVariants as ones
 use Rattle.task_asm.specs.declared.op.TwoOp.{TwoOp}
 use Rattle.task_asm.specs.declared.op.TwoOp.TheVariants as twos
 use Rattle.task_asm.specs.declared.op.ThreeOp.{ThreeOp}
 use Rattle.task_asm.specs.declared.op.ThreeOp.TheVariants as threes
+use Rattle.task_asm.specs.declared.op.JumpOp.TheVariants as jumps
 use Rattle.task_asm.specs.Named.{found}
 
 -- one register
@@ -60,12 +61,15 @@ register_op w = option_or (option_map One (one_op w)) (option_or (option_map Two
 unfoldable pub other_op : Word → Option Op
 other_op w =
     if bytes_eq w (codes "li") then Some Li
+    else (if bytes_eq w (codes "jmp") then Some (Jump jumps.Jmp)
+    else (if bytes_eq w (codes "jz") then Some (Jump jumps.Jz)
+    else (if bytes_eq w (codes "jnz") then Some (Jump jumps.Jnz)
     else (if bytes_eq w (codes "done") then Some Done
-    else None)
+    else None))))
 
 -- words of instructions that are accepted later
 abbrev pub is_later : Word → Bool
-is_later w = bytes_eq w (codes "jmp") || bytes_eq w (codes "jz") || bytes_eq w (codes "jnz") || bytes_eq w (codes "send") || bytes_eq w (codes "arm") || bytes_eq w (codes "stop") || bytes_eq w (codes "next")
+is_later w = bytes_eq w (codes "send") || bytes_eq w (codes "arm") || bytes_eq w (codes "stop") || bytes_eq w (codes "next")
 
 -- the instruction of a word
 unfoldable pub op_of : Word → Result Op Cause

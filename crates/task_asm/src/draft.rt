@@ -4,13 +4,26 @@ use crate::few::Few;
 use crate::labels::Labels;
 use ink_base::ThreadId;
 use sqlite_items::Items;
-use task_isa::{Instr, Name, ThreadDef};
+use task_isa::{Instr, Name, Reg, ThreadDef};
+
+/// An instruction as its line gives it: a target is still a name.
+#[derive(Drop)]
+pub enum DraftInstr {
+    /// An instruction without a target.
+    Ready(Instr),
+    /// A jump to the label.
+    Jmp { target: Name },
+    /// A jump to the label where `a` is 0.
+    Jz { a: Reg, target: Name },
+    /// A jump to the label where `a` isn't 0.
+    Jnz { a: Reg, target: Name },
+}
 
 /// An instruction and the number of its line.
 #[derive(Drop)]
 pub struct DraftLine {
     pub line: u32,
-    pub instr: Instr,
+    pub instr: DraftInstr,
 }
 
 /// A task: the number of its line, what its line says, the number of instructions before it, its code, and its labels.

@@ -10,6 +10,7 @@ mod named;
 mod op;
 mod operands;
 mod section;
+mod targets;
 mod task;
 
 pub use section::read_program;

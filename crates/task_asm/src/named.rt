@@ -6,7 +6,7 @@ ghost use Rattle.std.specs.Str.{bytes_eq};
 ghost use Rattle.ink_base.specs.Checks.{words_of};
 ghost use Rattle.ink_base.specs.Gives.{Gives};
 ghost use Rattle.task_isa.specs.Names.{is_letter, goes_on_name, is_name};
-ghost use Rattle.task_asm.specs.Named.{place_of, is_taken, fresh_of, new_name_in, declared_in};
+ghost use Rattle.task_asm.specs.Named.{place_of, is_taken, fresh_of, name_of, new_name_in, declared_in};
 
 use crate::draft::DraftTask;
 use ink_base::checks::{first, is_digit};
@@ -82,6 +82,16 @@ pub fn fresh(word: &[u8], taken: bool) -> Result<(), LineError>
         return Err(LineError::Fault(Cause::Duplicate));
     }
     Ok(())
+}
+
+/// What has to be a name. Refused where it is none: `UnknownWord`.
+pub fn name_of(alloc: Global, word: &[u8]) -> Result<Name, LineError>
+    ensures { Gives (λ x. x) result (name_of word.now) }
+{
+    if !is_name(word) {
+        return Err(LineError::Fault(Cause::UnknownWord));
+    }
+    Ok(Name::new(alloc, word)?)
 }
 
 fn place_of<T: Named>(items: &[T], word: &[u8]) -> Option<usize>

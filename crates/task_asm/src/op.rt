@@ -41,6 +41,14 @@ pub enum ThreeOp {
     Eq,
 }
 
+/// A jump to a label.
+#[derive(Clone, Copy)]
+pub enum JumpOp {
+    Jmp,
+    Jz,
+    Jnz,
+}
+
 /// What an instruction does, by its word.
 #[derive(Clone, Copy)]
 pub enum Op {
@@ -48,6 +56,7 @@ pub enum Op {
     One(OneOp),
     Two(TwoOp),
     Three(ThreeOp),
+    Jump(JumpOp),
     Done,
 }
 
@@ -139,6 +148,12 @@ fn other_op(word: &[u8]) -> Option<Op>
 {
     if word == b"li".as_slice() {
         Some(Op::Li)
+    } else if word == b"jmp".as_slice() {
+        Some(Op::Jump(JumpOp::Jmp))
+    } else if word == b"jz".as_slice() {
+        Some(Op::Jump(JumpOp::Jz))
+    } else if word == b"jnz".as_slice() {
+        Some(Op::Jump(JumpOp::Jnz))
     } else if word == b"done".as_slice() {
         Some(Op::Done)
     } else {
@@ -149,10 +164,7 @@ fn other_op(word: &[u8]) -> Option<Op>
 fn is_later(word: &[u8]) -> bool
     ensures { result ≡ is_later word.now }
 {
-    word == b"jmp".as_slice()
-        || word == b"jz".as_slice()
-        || word == b"jnz".as_slice()
-        || word == b"send".as_slice()
+    word == b"send".as_slice()
         || word == b"arm".as_slice()
         || word == b"stop".as_slice()
         || word == b"next".as_slice()

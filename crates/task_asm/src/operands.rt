@@ -3,13 +3,16 @@
 ghost use Rattle.std.specs.Prelude.{◌≡◌, ◌<◌, IfOk};
 ghost use Rattle.ink_base.specs.Checks.{words_of};
 ghost use Rattle.ink_base.specs.Gives.{Gives};
-ghost use Rattle.task_asm.specs.Operands.{register_of, register_in, one_in, two_in, three_in, constant_in, instr_in};
+ghost use Rattle.task_asm.specs.Operands.{register_of, register_in, one_in, two_in, three_in, constant_in, target_in, register_target_in, jump_in, instr_in};
 ghost use Rattle.task_asm.specs.Ops.{one_instr, two_instr, three_instr};
 
-use crate::op::{OneOp, Op, ThreeOp, TwoOp};
+use crate::draft::DraftInstr;
+use crate::named::name_of;
+use crate::op::{JumpOp, OneOp, Op, ThreeOp, TwoOp};
 use ink_base::checks::{end, first, is_digit, number};
 use ink_base::{Cause, LineError, Token};
-use task_isa::{Instr, Reg};
+use std::alloc::Global;
+use task_isa::{Instr, Name, Reg};
 
 #[tactic(auto, unfolding(crate::specs::Operands::register_of))]
 fn register_of(word: &[u8]) -> Result<u8, LineError>
@@ -111,31 +114,71 @@ fn three_instr(op: ThreeOp, a: Reg, b: Reg, c: Reg) -> Instr
     }
 }
 
+#[tactic(auto, unfolding(crate::specs::Operands::target_in))]
+fn target(alloc: Global, text: &[u8], words: &[Token]) -> Result<Name, LineError>
+    ensures { Gives (λ x. x) result (target_in (words_of text.now words.now)) }
+{
+    let (word, rest) = first(text, words)?;
+    let name = name_of(alloc, word)?;
+    end(text, rest)?;
+    Ok(name)
+}
+
+#[tactic(auto, unfolding(crate::specs::Operands::register_target_in))]
+fn register_target(alloc: Global, text: &[u8], words: &[Token]) -> Result<(Reg, Name), LineError>
+    ensures { Gives (λ x. x) result (register_target_in (words_of text.now words.now)) }
+{
+    let (a, rest) = register(text, words)?;
+    let target = target(alloc, text, rest)?;
+    Ok((Reg::new(a), target))
+}
+
+#[tactic(auto, unfolding(crate::specs::Operands::jump_in))]
+fn jump(alloc: Global, op: JumpOp, text: &[u8], words: &[Token]) -> Result<DraftInstr, LineError>
+    ensures { Gives (λ x. x) result (jump_in op (words_of text.now words.now)) }
+{
+    match op {
+        JumpOp::Jmp => {
+            let target = target(alloc, text, words)?;
+            Ok(DraftInstr::Jmp { target })
+        }
+        JumpOp::Jz => {
+            let (a, target) = register_target(alloc, text, words)?;
+            Ok(DraftInstr::Jz { a, target })
+        }
+        JumpOp::Jnz => {
+            let (a, target) = register_target(alloc, text, words)?;
+            Ok(DraftInstr::Jnz { a, target })
+        }
+    }
+}
+
 /// The instruction of a word, with the operands behind it. Refused by the first fault from the left.
 #[tactic(auto, unfolding(crate::specs::Operands::instr_in))]
-pub fn instr(op: Op, text: &[u8], words: &[Token]) -> Result<Instr, LineError>
+pub fn instr(alloc: Global, op: Op, text: &[u8], words: &[Token]) -> Result<DraftInstr, LineError>
     ensures { Gives (λ x. x) result (instr_in op (words_of text.now words.now)) }
 {
     match op {
         Op::Li => {
             let (a, i) = constant(text, words)?;
-            Ok(Instr::Li { a, i })
+            Ok(DraftInstr::Ready(Instr::Li { a, i }))
         }
         Op::One(op) => {
             let a = one(text, words)?;
-            Ok(one_instr(op, a))
+            Ok(DraftInstr::Ready(one_instr(op, a)))
         }
         Op::Two(op) => {
             let (a, b) = two(text, words)?;
-            Ok(two_instr(op, a, b))
+            Ok(DraftInstr::Ready(two_instr(op, a, b)))
         }
         Op::Three(op) => {
             let (a, b, c) = three(text, words)?;
-            Ok(three_instr(op, a, b, c))
+            Ok(DraftInstr::Ready(three_instr(op, a, b, c)))
         }
+        Op::Jump(op) => jump(alloc, op, text, words),
         Op::Done => {
             end(text, words)?;
-            Ok(Instr::Done)
+            Ok(DraftInstr::Ready(Instr::Done))
         }
     }
 }

@@ -46,6 +46,7 @@ fn read_label(
 
 #[tactic(auto, unfolding(crate::specs::Task::instr_line))]
 fn read_instr(
+    alloc: Global,
     draft: &mut Draft,
     mut task: DraftTask,
     text: &[u8],
@@ -57,7 +58,7 @@ fn read_instr(
 {
     let op = op_of(word)?;
     room(4096, draft.count as usize)?;
-    let instr = instr(op, text, words)?;
+    let instr = instr(alloc, op, text, words)?;
     task.code.push(DraftLine { line, instr })?;
     draft.current = Some(task);
     draft.count += 1;
@@ -95,7 +96,7 @@ fn read_inside(
     }
     match label_of(word) {
         Some(name) => read_label(alloc, draft, task, text, name, words),
-        None => read_instr(draft, task, text, line, word, words),
+        None => read_instr(alloc, draft, task, text, line, word, words),
     }
 }
 
