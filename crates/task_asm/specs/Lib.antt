@@ -1,8 +1,10 @@
 pub mod Labels
 pub mod Named
+pub mod Forms
+pub mod Devices
 pub mod Ops
 pub mod Operands
-pub mod Forms
+pub mod Outside
 pub mod Task
 pub mod Targets
 pub mod Section

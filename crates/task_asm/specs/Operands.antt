@@ -4,16 +4,22 @@ use Rattle.ink_base.specs.Lines.{Word}
 use Rattle.ink_base.specs.Numbers.{is_digit}
 use Rattle.ink_base.specs.declared.fault.Cause.{Cause}
 use Rattle.ink_base.specs.declared.fault.Cause.TheVariants.{UnknownWord}
+use Rattle.ink_base.specs.declared.ids.ThreadId.{ThreadId}
 use Rattle.ink_base.specs.Gives.{◌>>=◌}
 use Rattle.ink_base.specs.Checks.{word_in, number_in, end_in}
-use Rattle.task_isa.specs.declared.instr.Instr.TheVariants.{Li, Done}
+use Rattle.task_isa.specs.declared.instr.Instr.{Instr}
+use Rattle.task_isa.specs.declared.instr.Instr.TheVariants.{Li, Send, Arm, Stop, Done}
 use Rattle.task_asm.specs.declared.op.Op.{Op}
 use Rattle.task_asm.specs.declared.op.Op.TheVariants as ops
 use Rattle.task_asm.specs.declared.op.JumpOp.{JumpOp}
 use Rattle.task_asm.specs.declared.op.JumpOp.TheVariants as jumps
+use Rattle.task_asm.specs.declared.op.DeviceOp.{DeviceOp}
+use Rattle.task_asm.specs.declared.op.DeviceOp.TheVariants as devices
+use Rattle.task_asm.specs.declared.draft.Draft.{Draft}
 use Rattle.task_asm.specs.declared.draft.DraftInstr.{DraftInstr}
 use Rattle.task_asm.specs.declared.draft.DraftInstr.TheVariants.{Ready, Jmp, Jz, Jnz}
 use Rattle.task_asm.specs.Named.{name_of}
+use Rattle.task_asm.specs.Devices.{own_pipe_in, own_timer_in}
 use Rattle.task_asm.specs.Ops.{one_instr, two_instr, three_instr}
 
 -- the register of a word, r0 to r15
@@ -86,21 +92,39 @@ jump_in jumps.Jnz ws = do
   x ← register_target_in ws
   Ok (Jnz x.0 x.1)
 
--- an instruction, by the words behind its first
-unfoldable pub instr_in : Op → List Word → Result DraftInstr Cause
-instr_in ops.Li ws = do
+-- an instruction of the thread on a pipe or timer, by the words behind its first
+unfoldable pub device_in : Draft → ThreadId → DeviceOp → List Word → Result Instr Cause
+device_in d thread devices.Send ws = do
+  pipe ← own_pipe_in d.pipes thread ws
+  x ← two_in pipe.1
+  Ok (Send pipe.0 x.0 x.1)
+device_in d thread devices.Arm ws = do
+  timer ← own_timer_in d.timers thread ws
+  x ← two_in timer.1
+  Ok (Arm timer.0 x.0 x.1)
+device_in d thread devices.Stop ws = do
+  timer ← own_timer_in d.timers thread ws
+  e ← end_in timer.1
+  Ok (Stop timer.0)
+
+-- an instruction of the thread, by the words behind its first
+unfoldable pub instr_in : Draft → ThreadId → Op → List Word → Result DraftInstr Cause
+instr_in d thread ops.Li ws = do
   x ← constant_in ws
   Ok (Ready (Li x.0 x.1))
-instr_in (ops.One op) ws = do
+instr_in d thread (ops.One op) ws = do
   a ← one_in ws
   Ok (Ready (one_instr op a))
-instr_in (ops.Two op) ws = do
+instr_in d thread (ops.Two op) ws = do
   x ← two_in ws
   Ok (Ready (two_instr op x.0 x.1))
-instr_in (ops.Three op) ws = do
+instr_in d thread (ops.Three op) ws = do
   x ← three_in ws
   Ok (Ready (three_instr op x.0 x.1 x.2))
-instr_in (ops.Jump op) ws = jump_in op ws
-instr_in ops.Done ws = do
+instr_in d thread (ops.Jump op) ws = jump_in op ws
+instr_in d thread (ops.Device op) ws = do
+  instr ← device_in d thread op ws
+  Ok (Ready instr)
+instr_in d thread ops.Done ws = do
   e ← end_in ws
   Ok (Ready Done)

@@ -1,5 +1,5 @@
 -- The words of instructions.
-use Rattle.std.specs.Prelude.{ℕ, Bool, ◌||◌, Option, Some, None, Result, Err, codes, if◌then◌else◌}
+use Rattle.std.specs.Prelude.{ℕ, Bool, Option, Some, None, Result, Err, codes, if◌then◌else◌}
 use Rattle.std.specs.Option.{option_map, option_or}
 use Rattle.std.specs.Str.{bytes_eq}
 use Rattle.ink_base.specs.Lines.{Word}
@@ -8,7 +8,7 @@ use Rattle.ink_base.specs.declared.fault.Cause.TheVariants.{NotYet}
 use Rattle.task_isa.specs.declared.instr.Instr.{Instr}
 use Rattle.task_isa.specs.declared.instr.Instr.TheVariants.{Mov, Add, Sub, Mul, And, Or, Xor, Shl, Shr, Divu, Remu, Ltu, Eq, Ev, Kind, Num, Now, Ld, St, Out}
 use Rattle.task_asm.specs.declared.op.Op.{Op}
-use Rattle.task_asm.specs.declared.op.Op.TheVariants.{Li, One, Two, Three, Jump, Done}
+use Rattle.task_asm.specs.declared.op.Op.TheVariants.{Li, One, Two, Three, Jump, Device, Done}
 use Rattle.task_asm.specs.declared.op.OneOp.{OneOp}
 use Rattle.task_asm.specs.declared.op.OneOp.TheVariants as ones
 use Rattle.task_asm.specs.declared.op.TwoOp.{TwoOp}
@@ -16,6 +16,7 @@ use Rattle.task_asm.specs.declared.op.TwoOp.TheVariants as twos
 use Rattle.task_asm.specs.declared.op.ThreeOp.{ThreeOp}
 use Rattle.task_asm.specs.declared.op.ThreeOp.TheVariants as threes
 use Rattle.task_asm.specs.declared.op.JumpOp.TheVariants as jumps
+use Rattle.task_asm.specs.declared.op.DeviceOp.TheVariants as devices
 use Rattle.task_asm.specs.Named.{found}
 
 -- one register
@@ -64,12 +65,15 @@ other_op w =
     else (if bytes_eq w (codes "jmp") then Some (Jump jumps.Jmp)
     else (if bytes_eq w (codes "jz") then Some (Jump jumps.Jz)
     else (if bytes_eq w (codes "jnz") then Some (Jump jumps.Jnz)
+    else (if bytes_eq w (codes "send") then Some (Device devices.Send)
+    else (if bytes_eq w (codes "arm") then Some (Device devices.Arm)
+    else (if bytes_eq w (codes "stop") then Some (Device devices.Stop)
     else (if bytes_eq w (codes "done") then Some Done
-    else None))))
+    else None)))))))
 
 -- words of instructions that are accepted later
 abbrev pub is_later : Word → Bool
-is_later w = bytes_eq w (codes "send") || bytes_eq w (codes "arm") || bytes_eq w (codes "stop") || bytes_eq w (codes "next")
+is_later w = bytes_eq w (codes "next")
 
 -- the instruction of a word
 unfoldable pub op_of : Word → Result Op Cause

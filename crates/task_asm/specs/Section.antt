@@ -36,7 +36,7 @@ section_in count d (line ∷ rest) =
     else at_line line.number (line_in d line.number line.words) >> (λ next. section_in count next rest)
 
 abbrev pub empty_draft : Draft
-empty_draft = record { threads = []; thread_lines = []; sources = []; tasks = []; current = None; count = 0 }
+empty_draft = record { threads = []; thread_lines = []; sources = []; pipes = []; timers = []; tasks = []; current = None; count = 0 }
 
 abbrev pub code_lines : DraftTask → List ℕ
 code_lines t = map (λ (l : DraftLine). l.line) t.code

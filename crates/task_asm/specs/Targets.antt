@@ -1,5 +1,5 @@
 -- The program of a draft, whose targets are found when all its lines are read.
-use Rattle.std.specs.Prelude.{ℕ, [], List, Option, Some, None, Result, Ok, Err}
+use Rattle.std.specs.Prelude.{ℕ, List, Option, Some, None, Result, Ok, Err}
 use Rattle.std.specs.Option.{option_map}
 use Rattle.ink_base.specs.Lines.{Word}
 use Rattle.ink_base.specs.declared.fault.Cause.TheVariants.{BadTarget}
@@ -39,4 +39,4 @@ task_of t = code_of t.labels t.code >> (λ code. Ok (record { name = t.name; thr
 
 -- the program of a draft, or the first instruction whose target isn't there
 unfoldable pub program_of : Draft → Result Program JobFault
-program_of d = each task_of d.tasks >> (λ tasks. Ok (record { threads = d.threads; sources = d.sources; pipes = []; timers = []; tasks = tasks }))
+program_of d = each task_of d.tasks >> (λ tasks. Ok (record { threads = d.threads; sources = d.sources; pipes = d.pipes; timers = d.timers; tasks = tasks }))

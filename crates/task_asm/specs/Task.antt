@@ -12,7 +12,8 @@ use Rattle.task_asm.specs.Labels.{offset_of, with_label}
 use Rattle.task_asm.specs.Named.{fresh_of}
 use Rattle.task_asm.specs.Ops.{op_of}
 use Rattle.task_asm.specs.Operands.{instr_in}
-use Rattle.task_asm.specs.Forms.{room, outside_line}
+use Rattle.task_asm.specs.Forms.{room}
+use Rattle.task_asm.specs.Outside.{outside_line}
 
 -- what stands before a colon at the end of a word
 abbrev pub label_of : Word → Option Word
@@ -30,7 +31,7 @@ unfoldable pub instr_line : Draft → DraftTask → ℕ → Word → List Word �
 instr_line d task line w ws = do
   op ← op_of w
   free ← room 4096 d.count
-  instr ← instr_in op ws
+  instr ← instr_in d task.thread op ws
   Ok (record d { current = Some (record task { code = task.code ++ record { line = line; instr = instr } ∷ [] }); count = d.count + 1 })
 
 -- end

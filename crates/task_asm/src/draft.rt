@@ -4,7 +4,7 @@ use crate::few::Few;
 use crate::labels::Labels;
 use ink_base::ThreadId;
 use sqlite_items::Items;
-use task_isa::{Instr, Name, Reg, ThreadDef};
+use task_isa::{Instr, Name, PipeDef, Reg, ThreadDef, TimerDef};
 
 /// An instruction as its line gives it: a target is still a name.
 #[derive(Drop)]
@@ -44,6 +44,8 @@ pub struct Draft {
     pub threads: Few<ThreadDef>,
     pub thread_lines: Items<u32>,
     pub sources: Items<ThreadId>,
+    pub pipes: Few<PipeDef>,
+    pub timers: Few<TimerDef>,
     pub tasks: Items<DraftTask>,
     pub current: Option<DraftTask>,
     pub count: u32,

@@ -59,8 +59,8 @@ pub fn finish(alloc: Global, header: u32, draft: Draft) -> Result<(Program, Line
     let program = Program {
         threads: draft.threads.into_items(),
         sources: draft.sources,
-        pipes: Items::new(alloc),
-        timers: Items::new(alloc),
+        pipes: draft.pipes.into_items(),
+        timers: draft.timers.into_items(),
         tasks,
     };
     Ok((program, lines))

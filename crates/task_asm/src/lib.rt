@@ -1,6 +1,7 @@
 //! Reads the section of a job text that gives its program.
 #![tactic(auto)]
 
+mod devices;
 mod draft;
 mod few;
 mod finish;
@@ -9,6 +10,7 @@ mod labels;
 mod named;
 mod op;
 mod operands;
+mod outside;
 mod section;
 mod targets;
 mod task;

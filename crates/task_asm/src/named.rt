@@ -12,7 +12,7 @@ use crate::draft::DraftTask;
 use ink_base::checks::{first, is_digit};
 use ink_base::{Cause, LineError, Token};
 use std::alloc::Global;
-use task_isa::{Name, ThreadDef};
+use task_isa::{Name, PipeDef, ThreadDef, TimerDef};
 
 /// What has a name.
 pub trait Named {
@@ -26,6 +26,22 @@ pub trait Named {
 }
 
 impl Named for ThreadDef {
+    ghost name = { λ t. t.name };
+
+    fn is_named(&self, word: &[u8]) -> bool {
+        self.name.is(word)
+    }
+}
+
+impl Named for PipeDef {
+    ghost name = { λ p. p.name };
+
+    fn is_named(&self, word: &[u8]) -> bool {
+        self.name.is(word)
+    }
+}
+
+impl Named for TimerDef {
     ghost name = { λ t. t.name };
 
     fn is_named(&self, word: &[u8]) -> bool {

@@ -49,6 +49,14 @@ pub enum JumpOp {
     Jnz,
 }
 
+/// An instruction on a pipe or timer.
+#[derive(Clone, Copy)]
+pub enum DeviceOp {
+    Send,
+    Arm,
+    Stop,
+}
+
 /// What an instruction does, by its word.
 #[derive(Clone, Copy)]
 pub enum Op {
@@ -57,6 +65,7 @@ pub enum Op {
     Two(TwoOp),
     Three(ThreeOp),
     Jump(JumpOp),
+    Device(DeviceOp),
     Done,
 }
 
@@ -154,6 +163,12 @@ fn other_op(word: &[u8]) -> Option<Op>
         Some(Op::Jump(JumpOp::Jz))
     } else if word == b"jnz".as_slice() {
         Some(Op::Jump(JumpOp::Jnz))
+    } else if word == b"send".as_slice() {
+        Some(Op::Device(DeviceOp::Send))
+    } else if word == b"arm".as_slice() {
+        Some(Op::Device(DeviceOp::Arm))
+    } else if word == b"stop".as_slice() {
+        Some(Op::Device(DeviceOp::Stop))
     } else if word == b"done".as_slice() {
         Some(Op::Done)
     } else {
@@ -164,10 +179,7 @@ fn other_op(word: &[u8]) -> Option<Op>
 fn is_later(word: &[u8]) -> bool
     ensures { result ≡ is_later word.now }
 {
-    word == b"send".as_slice()
-        || word == b"arm".as_slice()
-        || word == b"stop".as_slice()
-        || word == b"next".as_slice()
+    word == b"next".as_slice()
 }
 
 /// The instruction of a word. Refused where it is none, `UnknownWord`, or one that is accepted later: `NotYet`.

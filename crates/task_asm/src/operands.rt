@@ -3,14 +3,15 @@
 ghost use Rattle.std.specs.Prelude.{◌≡◌, ◌<◌, IfOk};
 ghost use Rattle.ink_base.specs.Checks.{words_of};
 ghost use Rattle.ink_base.specs.Gives.{Gives};
-ghost use Rattle.task_asm.specs.Operands.{register_of, register_in, one_in, two_in, three_in, constant_in, target_in, register_target_in, jump_in, instr_in};
+ghost use Rattle.task_asm.specs.Operands.{register_of, register_in, one_in, two_in, three_in, constant_in, target_in, register_target_in, jump_in, device_in, instr_in};
 ghost use Rattle.task_asm.specs.Ops.{one_instr, two_instr, three_instr};
 
-use crate::draft::DraftInstr;
+use crate::devices::{own_pipe, own_timer};
+use crate::draft::{Draft, DraftInstr};
 use crate::named::name_of;
-use crate::op::{JumpOp, OneOp, Op, ThreeOp, TwoOp};
+use crate::op::{DeviceOp, JumpOp, OneOp, Op, ThreeOp, TwoOp};
 use ink_base::checks::{end, first, is_digit, number};
-use ink_base::{Cause, LineError, Token};
+use ink_base::{Cause, LineError, ThreadId, Token};
 use std::alloc::Global;
 use task_isa::{Instr, Name, Reg};
 
@@ -153,10 +154,46 @@ fn jump(alloc: Global, op: JumpOp, text: &[u8], words: &[Token]) -> Result<Draft
     }
 }
 
-/// The instruction of a word, with the operands behind it. Refused by the first fault from the left.
+#[tactic(auto, unfolding(crate::specs::Operands::device_in))]
+fn device(
+    draft: &Draft,
+    thread: ThreadId,
+    op: DeviceOp,
+    text: &[u8],
+    words: &[Token],
+) -> Result<Instr, LineError>
+    ensures { Gives (λ x. x) result (device_in draft.now thread op (words_of text.now words.now)) }
+{
+    match op {
+        DeviceOp::Send => {
+            let (i, rest) = own_pipe(text, words, &draft.pipes, thread)?;
+            let (a, b) = two(text, rest)?;
+            Ok(Instr::Send { i, a, b })
+        }
+        DeviceOp::Arm => {
+            let (i, rest) = own_timer(text, words, &draft.timers, thread)?;
+            let (a, b) = two(text, rest)?;
+            Ok(Instr::Arm { i, a, b })
+        }
+        DeviceOp::Stop => {
+            let (i, rest) = own_timer(text, words, &draft.timers, thread)?;
+            end(text, rest)?;
+            Ok(Instr::Stop { i })
+        }
+    }
+}
+
+/// The instruction of a word in a task of the thread, with the operands behind it. Refused by the first fault from the left.
 #[tactic(auto, unfolding(crate::specs::Operands::instr_in))]
-pub fn instr(alloc: Global, op: Op, text: &[u8], words: &[Token]) -> Result<DraftInstr, LineError>
-    ensures { Gives (λ x. x) result (instr_in op (words_of text.now words.now)) }
+pub fn instr(
+    alloc: Global,
+    draft: &Draft,
+    thread: ThreadId,
+    op: Op,
+    text: &[u8],
+    words: &[Token],
+) -> Result<DraftInstr, LineError>
+    ensures { Gives (λ x. x) result (instr_in draft.now thread op (words_of text.now words.now)) }
 {
     match op {
         Op::Li => {
@@ -176,6 +213,10 @@ pub fn instr(alloc: Global, op: Op, text: &[u8], words: &[Token]) -> Result<Draf
             Ok(DraftInstr::Ready(three_instr(op, a, b, c)))
         }
         Op::Jump(op) => jump(alloc, op, text, words),
+        Op::Device(op) => {
+            let instr = device(draft, thread, op, text, words)?;
+            Ok(DraftInstr::Ready(instr))
+        }
         Op::Done => {
             end(text, words)?;
             Ok(DraftInstr::Ready(Instr::Done))

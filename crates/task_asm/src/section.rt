@@ -81,6 +81,8 @@ fn empty_draft(alloc: Global) -> Draft
         threads: Few::new(alloc),
         thread_lines: Items::new(alloc),
         sources: Items::new(alloc),
+        pipes: Few::new(alloc),
+        timers: Few::new(alloc),
         tasks: Items::new(alloc),
         current: None,
         count: 0,

@@ -7,10 +7,11 @@ ghost use Rattle.ink_base.specs.Gives.{Leaves};
 ghost use Rattle.task_asm.specs.Task.{label_of, label_line, instr_line, end_line, inside_line, line_in};
 
 use crate::draft::{Draft, DraftLine, DraftTask};
-use crate::forms::{read_outside, room};
+use crate::forms::room;
 use crate::named::fresh;
 use crate::op::op_of;
 use crate::operands::instr;
+use crate::outside::read_outside;
 use ink_base::checks::{end, word};
 use ink_base::{LineError, Token};
 use std::alloc::Global;
@@ -58,7 +59,7 @@ fn read_instr(
 {
     let op = op_of(word)?;
     room(4096, draft.count as usize)?;
-    let instr = instr(alloc, op, text, words)?;
+    let instr = instr(alloc, draft, task.thread, op, text, words)?;
     task.code.push(DraftLine { line, instr })?;
     draft.current = Some(task);
     draft.count += 1;

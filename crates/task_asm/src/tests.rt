@@ -150,9 +150,9 @@ fn faults_of_declarations(rt: HostRuntime) -> Result<(), Fail> {
             Cause::Duplicate,
         ),
         (
-            "thread b priority 2 queue 2 state 1 log 8 expires 5",
+            "thread b priority 2 queue 2 state 1 log 8 expires 2147483648",
             3,
-            Cause::NotYet,
+            Cause::OverLimit,
         ),
         (
             "thread b priority 2 queue 2 state 1 log 8 expire 5",
@@ -161,7 +161,7 @@ fn faults_of_declarations(rt: HostRuntime) -> Result<(), Fail> {
         ),
         ("source b", 3, Cause::UnknownWord),
         ("source", 3, Cause::Missing),
-        ("pipe", 3, Cause::NotYet),
+        ("pipe", 3, Cause::Missing),
         ("mul r1 r1 r1", 3, Cause::UnknownWord),
         ("task 9 thread b limit 0", 3, Cause::UnknownWord),
         ("task t thread a limit 4097", 3, Cause::OverLimit),
