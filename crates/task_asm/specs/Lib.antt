@@ -1,5 +1,6 @@
 pub mod Labels
 pub mod Named
+pub mod Place
 pub mod Forms
 pub mod Devices
 pub mod Ops

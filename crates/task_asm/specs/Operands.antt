@@ -17,7 +17,7 @@ use Rattle.task_asm.specs.declared.op.DeviceOp.{DeviceOp}
 use Rattle.task_asm.specs.declared.op.DeviceOp.TheVariants as devices
 use Rattle.task_asm.specs.declared.draft.Draft.{Draft}
 use Rattle.task_asm.specs.declared.draft.DraftInstr.{DraftInstr}
-use Rattle.task_asm.specs.declared.draft.DraftInstr.TheVariants.{Ready, Jmp, Jz, Jnz}
+use Rattle.task_asm.specs.declared.draft.DraftInstr.TheVariants.{Ready, Jmp, Jz, Jnz, Next}
 use Rattle.task_asm.specs.Named.{name_of}
 use Rattle.task_asm.specs.Devices.{own_pipe_in, own_timer_in}
 use Rattle.task_asm.specs.Ops.{one_instr, two_instr, three_instr}
@@ -125,6 +125,9 @@ instr_in d thread (ops.Jump op) ws = jump_in op ws
 instr_in d thread (ops.Device op) ws = do
   instr ← device_in d thread op ws
   Ok (Ready instr)
+instr_in d thread ops.Next ws = do
+  task ← target_in ws
+  Ok (Next task)
 instr_in d thread ops.Done ws = do
   e ← end_in ws
   Ok (Ready Done)

@@ -1,14 +1,13 @@
 -- The words of instructions.
-use Rattle.std.specs.Prelude.{ℕ, Bool, Option, Some, None, Result, Err, codes, if◌then◌else◌}
+use Rattle.std.specs.Prelude.{ℕ, Option, Some, None, Result, codes, if◌then◌else◌}
 use Rattle.std.specs.Option.{option_map, option_or}
 use Rattle.std.specs.Str.{bytes_eq}
 use Rattle.ink_base.specs.Lines.{Word}
 use Rattle.ink_base.specs.declared.fault.Cause.{Cause}
-use Rattle.ink_base.specs.declared.fault.Cause.TheVariants.{NotYet}
 use Rattle.task_isa.specs.declared.instr.Instr.{Instr}
 use Rattle.task_isa.specs.declared.instr.Instr.TheVariants.{Mov, Add, Sub, Mul, And, Or, Xor, Shl, Shr, Divu, Remu, Ltu, Eq, Ev, Kind, Num, Now, Ld, St, Out}
 use Rattle.task_asm.specs.declared.op.Op.{Op}
-use Rattle.task_asm.specs.declared.op.Op.TheVariants.{Li, One, Two, Three, Jump, Device, Done}
+use Rattle.task_asm.specs.declared.op.Op.TheVariants.{Li, One, Two, Three, Jump, Device, Next, Done}
 use Rattle.task_asm.specs.declared.op.OneOp.{OneOp}
 use Rattle.task_asm.specs.declared.op.OneOp.TheVariants as ones
 use Rattle.task_asm.specs.declared.op.TwoOp.{TwoOp}
@@ -68,16 +67,13 @@ other_op w =
     else (if bytes_eq w (codes "send") then Some (Device devices.Send)
     else (if bytes_eq w (codes "arm") then Some (Device devices.Arm)
     else (if bytes_eq w (codes "stop") then Some (Device devices.Stop)
+    else (if bytes_eq w (codes "next") then Some Next
     else (if bytes_eq w (codes "done") then Some Done
-    else None)))))))
-
--- words of instructions that are accepted later
-abbrev pub is_later : Word → Bool
-is_later w = bytes_eq w (codes "next")
+    else None))))))))
 
 -- the instruction of a word
 unfoldable pub op_of : Word → Result Op Cause
-op_of w = if is_later w then Err NotYet else found (option_or (register_op w) (other_op w))
+op_of w = found (option_or (register_op w) (other_op w))
 
 -- the instruction with its register
 abbrev pub one_instr : OneOp → ℕ → Instr

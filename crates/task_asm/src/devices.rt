@@ -1,8 +1,9 @@
 //! Pipes and timers: their declarations, and how instructions name them.
 
-ghost use Rattle.std.specs.Prelude.{◌≡◌, ◌<◌, length};
+ghost use Rattle.std.specs.Prelude.{◌≡◌, ◌<◌, length, OnOk};
 ghost use Rattle.ink_base.specs.Checks.{words_of};
 ghost use Rattle.ink_base.specs.Gives.{Gives, Leaves};
+ghost use Rattle.task_asm.specs.Place.{HasPlace};
 ghost use Rattle.task_asm.specs.Devices.{reader_in, pipe_line, due_in, off_in, start_in, timer_line, writes, sets, own_pipe_in, own_timer_in};
 
 use crate::draft::Draft;
@@ -39,7 +40,9 @@ pub fn read_pipe(
     text: &[u8],
     words: &[Token],
 ) -> Result<(), LineError>
-    ensures { Leaves result draft.new (pipe_line draft.old (words_of text.now words.now)) }
+    requires { HasPlace draft.old }
+    ensures given { Leaves result draft.new (pipe_line draft.old (words_of text.now words.now)) }
+    ensures place { OnOk result (HasPlace draft.new) }
 {
     room(8, draft.pipes.len())?;
     let (name, rest) = new_name(alloc, text, words, draft.pipes.as_slice())?;
@@ -98,7 +101,9 @@ pub fn read_timer(
     text: &[u8],
     words: &[Token],
 ) -> Result<(), LineError>
-    ensures { Leaves result draft.new (timer_line draft.old (words_of text.now words.now)) }
+    requires { HasPlace draft.old }
+    ensures given { Leaves result draft.new (timer_line draft.old (words_of text.now words.now)) }
+    ensures place { OnOk result (HasPlace draft.new) }
 {
     room(8, draft.timers.len())?;
     let (name, rest) = new_name(alloc, text, words, draft.timers.as_slice())?;

@@ -17,6 +17,8 @@ pub enum DraftInstr {
     Jz { a: Reg, target: Name },
     /// A jump to the label where `a` isn't 0.
     Jnz { a: Reg, target: Name },
+    /// The chain goes on with the task.
+    Next { task: Name },
 }
 
 /// An instruction and the number of its line.
@@ -46,7 +48,7 @@ pub struct Draft {
     pub sources: Items<ThreadId>,
     pub pipes: Few<PipeDef>,
     pub timers: Few<TimerDef>,
-    pub tasks: Items<DraftTask>,
+    pub tasks: Few<DraftTask>,
     pub current: Option<DraftTask>,
     pub count: u32,
 }

@@ -54,7 +54,7 @@ pub fn finish(alloc: Global, header: u32, draft: Draft) -> Result<(Program, Line
     ensures program { GivesJob (λ x. x.0) result (program_of draft) }
     ensures lines { IfOk result (λ x. x.1 ≡ lines_of_draft header draft) }
 {
-    let tasks = tasks_of(alloc, draft.tasks.as_slice())?;
+    let tasks = tasks_of(alloc, &draft.tasks)?;
     let lines = lines_of(alloc, header, &draft)?;
     let program = Program {
         threads: draft.threads.into_items(),

@@ -1,8 +1,9 @@
 //! The declarations of threads and sources. Each function reads what stands behind the first word of a line.
 
-ghost use Rattle.std.specs.Prelude.{◌≡◌};
+ghost use Rattle.std.specs.Prelude.{◌≡◌, OnOk};
 ghost use Rattle.ink_base.specs.Checks.{words_of};
 ghost use Rattle.ink_base.specs.Gives.{Gives, Leaves};
+ghost use Rattle.task_asm.specs.Place.{HasPlace};
 ghost use Rattle.task_asm.specs.Forms.{room, has_priority, priority_in, expires_in, thread_line, source_line};
 
 use crate::draft::Draft;
@@ -69,7 +70,9 @@ pub fn read_thread(
     line: u32,
     words: &[Token],
 ) -> Result<(), LineError>
-    ensures { Leaves result draft.new (thread_line draft.old line (words_of text.now words.now)) }
+    requires { HasPlace draft.old }
+    ensures given { Leaves result draft.new (thread_line draft.old line (words_of text.now words.now)) }
+    ensures place { OnOk result (HasPlace draft.new) }
 {
     room(16, draft.threads.len())?;
     let (name, rest) = new_name(alloc, text, words, draft.threads.as_slice())?;
@@ -93,7 +96,9 @@ pub fn read_thread(
 /// `source THREAD`. Refused in the same way.
 #[tactic(auto, unfolding(crate::specs::Forms::source_line))]
 pub fn read_source(draft: &mut Draft, text: &[u8], words: &[Token]) -> Result<(), LineError>
-    ensures { Leaves result draft.new (source_line draft.old (words_of text.now words.now)) }
+    requires { HasPlace draft.old }
+    ensures given { Leaves result draft.new (source_line draft.old (words_of text.now words.now)) }
+    ensures place { OnOk result (HasPlace draft.new) }
 {
     room(16, draft.sources.len())?;
     let (thread, rest) = declared(text, words, draft.threads.as_slice())?;

@@ -110,7 +110,8 @@ pub fn name_of(alloc: Global, word: &[u8]) -> Result<Name, LineError>
     Ok(Name::new(alloc, word)?)
 }
 
-fn place_of<T: Named>(items: &[T], word: &[u8]) -> Option<usize>
+/// The place of the first item with this name.
+pub fn place_of<T: Named>(items: &[T], word: &[u8]) -> Option<usize>
     ensures place { result ≡ place_of T.name items.now word.now }
     ensures within { IfSome result (λ place. place < length items.now) }
 {

@@ -2,7 +2,7 @@
 
 ghost use Rattle.std.specs.Prelude.{◌≡◌};
 ghost use Rattle.ink_base.specs.Gives.{Gives};
-ghost use Rattle.task_asm.specs.Ops.{one_op, two_op, three_op, register_op, other_op, is_later, op_of};
+ghost use Rattle.task_asm.specs.Ops.{one_op, two_op, three_op, register_op, other_op, op_of};
 
 use ink_base::{Cause, LineError};
 
@@ -66,6 +66,7 @@ pub enum Op {
     Three(ThreeOp),
     Jump(JumpOp),
     Device(DeviceOp),
+    Next,
     Done,
 }
 
@@ -169,6 +170,8 @@ fn other_op(word: &[u8]) -> Option<Op>
         Some(Op::Device(DeviceOp::Arm))
     } else if word == b"stop".as_slice() {
         Some(Op::Device(DeviceOp::Stop))
+    } else if word == b"next".as_slice() {
+        Some(Op::Next)
     } else if word == b"done".as_slice() {
         Some(Op::Done)
     } else {
@@ -176,20 +179,11 @@ fn other_op(word: &[u8]) -> Option<Op>
     }
 }
 
-fn is_later(word: &[u8]) -> bool
-    ensures { result ≡ is_later word.now }
-{
-    word == b"next".as_slice()
-}
-
-/// The instruction of a word. Refused where it is none, `UnknownWord`, or one that is accepted later: `NotYet`.
+/// The instruction of a word. Refused where it is none: `UnknownWord`.
 #[tactic(auto, unfolding(crate::specs::Ops::op_of))]
 pub fn op_of(word: &[u8]) -> Result<Op, LineError>
     ensures { Gives (λ x. x) result (op_of word.now) }
 {
-    if is_later(word) {
-        return Err(LineError::Fault(Cause::NotYet));
-    }
     if let Some(op) = register_op(word) {
         return Ok(op);
     }

@@ -217,6 +217,10 @@ pub fn instr(
             let instr = device(draft, thread, op, text, words)?;
             Ok(DraftInstr::Ready(instr))
         }
+        Op::Next => {
+            let task = target(alloc, text, words)?;
+            Ok(DraftInstr::Next { task })
+        }
         Op::Done => {
             end(text, words)?;
             Ok(DraftInstr::Ready(Instr::Done))

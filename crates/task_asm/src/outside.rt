@@ -1,7 +1,9 @@
 //! The lines outside of tasks. Each function reads what stands behind the first word of a line.
 
+ghost use Rattle.std.specs.Prelude.{OnOk};
 ghost use Rattle.ink_base.specs.Checks.{words_of};
 ghost use Rattle.ink_base.specs.Gives.{Leaves};
+ghost use Rattle.task_asm.specs.Place.{HasPlace};
 ghost use Rattle.task_asm.specs.Outside.{task_line, outside_line};
 
 use crate::devices::{read_pipe, read_timer};
@@ -22,7 +24,9 @@ fn read_task(
     line: u32,
     words: &[Token],
 ) -> Result<(), LineError>
-    ensures { Leaves result draft.new (task_line draft.old line (words_of text.now words.now)) }
+    requires { HasPlace draft.old }
+    ensures given { Leaves result draft.new (task_line draft.old line (words_of text.now words.now)) }
+    ensures place { OnOk result (HasPlace draft.new) }
 {
     room(256, draft.tasks.len())?;
     let (name, rest) = new_name(alloc, text, words, draft.tasks.as_slice())?;
@@ -53,7 +57,9 @@ pub fn read_outside(
     word: &[u8],
     words: &[Token],
 ) -> Result<(), LineError>
-    ensures { Leaves result draft.new (outside_line draft.old line word.now (words_of text.now words.now)) }
+    requires { HasPlace draft.old }
+    ensures given { Leaves result draft.new (outside_line draft.old line word.now (words_of text.now words.now)) }
+    ensures place { OnOk result (HasPlace draft.new) }
 {
     if word == b"thread".as_slice() {
         read_thread(alloc, draft, text, line, words)

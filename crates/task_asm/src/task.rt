@@ -1,9 +1,10 @@
 //! The lines of a task.
 
-ghost use Rattle.std.specs.Prelude.{◌≡◌};
+ghost use Rattle.std.specs.Prelude.{◌≡◌, ◌<◌, length, IsNone, OnOk};
 ghost use Rattle.std.specs.Option.{option_map};
 ghost use Rattle.ink_base.specs.Checks.{words_of};
 ghost use Rattle.ink_base.specs.Gives.{Leaves};
+ghost use Rattle.task_asm.specs.Place.{HasPlace};
 ghost use Rattle.task_asm.specs.Task.{label_of, label_line, instr_line, end_line, inside_line, line_in};
 
 use crate::draft::{Draft, DraftLine, DraftTask};
@@ -35,7 +36,9 @@ fn read_label(
     name: &[u8],
     words: &[Token],
 ) -> Result<(), LineError>
-    ensures { Leaves result draft.new (label_line draft.old task name.now (words_of text.now words.now)) }
+    requires { length draft.old.tasks < 256 }
+    ensures given { Leaves result draft.new (label_line draft.old task name.now (words_of text.now words.now)) }
+    ensures place { OnOk result (HasPlace draft.new) }
 {
     fresh(name, task.labels.get(name).is_some())?;
     end(text, words)?;
@@ -55,7 +58,9 @@ fn read_instr(
     word: &[u8],
     words: &[Token],
 ) -> Result<(), LineError>
-    ensures { Leaves result draft.new (instr_line draft.old task line word.now (words_of text.now words.now)) }
+    requires { length draft.old.tasks < 256 }
+    ensures given { Leaves result draft.new (instr_line draft.old task line word.now (words_of text.now words.now)) }
+    ensures place { OnOk result (HasPlace draft.new) }
 {
     let op = op_of(word)?;
     room(4096, draft.count as usize)?;
@@ -73,7 +78,10 @@ fn read_end(
     text: &[u8],
     words: &[Token],
 ) -> Result<(), LineError>
-    ensures { Leaves result draft.new (end_line draft.old task (words_of text.now words.now)) }
+    requires closed { IsNone draft.old.current }
+    requires place { length draft.old.tasks < 256 }
+    ensures given { Leaves result draft.new (end_line draft.old task (words_of text.now words.now)) }
+    ensures place { OnOk result (HasPlace draft.new) }
 {
     end(text, words)?;
     draft.tasks.push(task)?;
@@ -90,7 +98,10 @@ fn read_inside(
     word: &[u8],
     words: &[Token],
 ) -> Result<(), LineError>
-    ensures { Leaves result draft.new (inside_line draft.old task line word.now (words_of text.now words.now)) }
+    requires closed { IsNone draft.old.current }
+    requires place { length draft.old.tasks < 256 }
+    ensures given { Leaves result draft.new (inside_line draft.old task line word.now (words_of text.now words.now)) }
+    ensures place { OnOk result (HasPlace draft.new) }
 {
     if word == b"end".as_slice() {
         return read_end(draft, task, text, words);
@@ -110,7 +121,9 @@ pub fn read_line(
     line: u32,
     words: &[Token],
 ) -> Result<(), LineError>
-    ensures { Leaves result draft.new (line_in draft.old line (words_of text.now words.now)) }
+    requires { HasPlace draft.old }
+    ensures given { Leaves result draft.new (line_in draft.old line (words_of text.now words.now)) }
+    ensures place { OnOk result (HasPlace draft.new) }
 {
     match words {
         [] => Ok(()),
