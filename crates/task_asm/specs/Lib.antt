@@ -9,3 +9,5 @@ pub mod Outside
 pub mod Task
 pub mod Targets
 pub mod Section
+pub mod Print
+pub mod Marks

@@ -7,14 +7,20 @@ mod few;
 mod finish;
 mod forms;
 mod labels;
+mod marks;
 mod named;
+mod numbers;
 mod op;
 mod operands;
 mod outside;
+mod print;
+mod print_code;
+mod print_parts;
 mod section;
 mod targets;
 mod task;
 
+pub use print::print_program;
 pub use section::read_program;
 
 #[cfg(test)]
