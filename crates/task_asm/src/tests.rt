@@ -1,5 +1,6 @@
 use super::*;
 use ink_base::{Cause, JobAnswer, ThreadId, job_tokens};
+use prog_check::check;
 use std::test::*;
 use task_isa::{Instr, Lines, Program, Reg};
 
@@ -454,5 +455,88 @@ fn instructions_are_counted_over_all_tasks(rt: HostRuntime) -> Result<(), Fail> 
         ("none", 4102, Cause::UnknownWord),
     ];
     assert_eq!(rt; first_wrong(&rt, text.as_str(), &cases)?, None);
+    Ok(())
+}
+
+const LOOSE: &str = "[program] # the same program
+  thread a priority 01 queue 2 state 1 log 8 expires 5
+thread b\tpriority 2 queue 32 state 0 log 4096
+timer t thread a due 1 period 0
+pipe p 064 from a to b
+timer u thread a off
+
+source b
+task x thread a limit 9
+unused:
+up:
+jz r1 down
+send p r1 r2
+down:
+again:
+arm t r3 r4
+stop u
+li r15 4294967295
+jnz r1 again
+divu r1 r2 r3
+next z
+end
+task y thread b limit 1
+done
+end
+task z thread a limit 10
+jmp up
+up:
+jmp up # not that of x
+end
+[sensors]
+";
+
+const PRINTED: &str = "[program]
+thread a priority 1 queue 2 state 1 log 8 expires 5
+thread b priority 2 queue 32 state 0 log 4096
+source b
+pipe p 64 from a to b
+timer t thread a due 1 period 0
+timer u thread a off
+task x thread a limit 9
+jz r1 L2
+send p r1 r2
+L2:
+arm t r3 r4
+stop u
+li r15 4294967295
+jnz r1 L2
+divu r1 r2 r3
+next z
+end
+task y thread b limit 1
+done
+end
+task z thread a limit 10
+jmp L1
+L1:
+jmp L1
+end
+";
+
+// The canonical text of the program of a text.
+fn printed(rt: &HostRuntime, text: &str) -> Result<Vec<u8>, Fail> {
+    let (program, lines, _) = read(rt, text).ok().ok_or("a program")?;
+    let program = check(program, &lines).ok().ok_or("an accepted program")?;
+    Ok(print_program(rt.alloc(), &program).ok().ok_or("memory")?)
+}
+
+#[test]
+fn a_canonical_text_is_printed_as_it_is(rt: HostRuntime) -> Result<(), Fail> {
+    let text = format!(in rt.alloc(); "{PRINTED}[sensors]\n")?;
+    let bytes = printed(&rt, text.as_str())?;
+    assert_eq!(rt; bytes.as_slice(), PRINTED.as_bytes());
+    Ok(())
+}
+
+#[test]
+fn another_text_of_the_program_is_printed_canonically(rt: HostRuntime) -> Result<(), Fail> {
+    let bytes = printed(&rt, LOOSE)?;
+    assert_eq!(rt; bytes.as_slice(), PRINTED.as_bytes());
     Ok(())
 }
