@@ -1,2 +1,4 @@
 pub mod LabelMap
 pub mod SectionSteps
+pub mod LabelMarks
+pub mod Printing

@@ -1,6 +1,13 @@
 pub mod Labels
-pub mod Ops
 pub mod Named
+pub mod Place
 pub mod Forms
+pub mod Devices
+pub mod Ops
+pub mod Operands
+pub mod Outside
 pub mod Task
+pub mod Targets
 pub mod Section
+pub mod Print
+pub mod Marks

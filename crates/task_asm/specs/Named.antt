@@ -21,6 +21,10 @@ is_taken name items w = list_any (λ x. bytes_eq (name x) w) items
 unfoldable pub fresh_of : Bool → Word → Result Word Cause
 fresh_of taken w = if not (is_name w) then Err UnknownWord else (if taken then Err Duplicate else Ok w)
 
+-- what has to be a name
+abbrev pub name_of : Word → Result Word Cause
+name_of w = if is_name w then Ok w else Err UnknownWord
+
 -- a name that no item has
 unfoldable pub new_name_in : {X : Type 0} → (X → Word) → List X → List Word → Result (Word × List Word) Cause
 new_name_in name items ws = do

@@ -8,14 +8,13 @@ use Rattle.ink_base.specs.declared.fault.Cause.TheVariants.{Missing, BadSection}
 use Rattle.ink_base.specs.declared.fault.JobFault.{JobFault}
 use Rattle.ink_base.specs.Gives.{◌>>◌, at_line}
 use Rattle.ink_base.specs.Checks.{end_in}
-use Rattle.task_isa.specs.declared.instr.Instr.{Instr}
 use Rattle.task_isa.specs.declared.lines.Lines.{Lines}
-use Rattle.task_isa.specs.declared.program.Task.{Task}
 use Rattle.task_isa.specs.declared.program.Program.{Program}
 use Rattle.task_asm.specs.declared.draft.DraftLine.{DraftLine}
 use Rattle.task_asm.specs.declared.draft.DraftTask.{DraftTask}
 use Rattle.task_asm.specs.declared.draft.Draft.{Draft}
 use Rattle.task_asm.specs.Task.{line_in}
+use Rattle.task_asm.specs.Targets.{program_of}
 
 -- the header of a section begins with a bracket
 abbrev pub is_header : List Word → Bool
@@ -37,20 +36,10 @@ section_in count d (line ∷ rest) =
     else at_line line.number (line_in d line.number line.words) >> (λ next. section_in count next rest)
 
 abbrev pub empty_draft : Draft
-empty_draft = record { threads = []; thread_lines = []; sources = []; tasks = []; current = None; count = 0 }
-
-abbrev pub code_of : DraftTask → List Instr
-code_of t = map (λ (l : DraftLine). l.instr) t.code
+empty_draft = record { threads = []; thread_lines = []; sources = []; pipes = []; timers = []; tasks = []; current = None; count = 0 }
 
 abbrev pub code_lines : DraftTask → List ℕ
 code_lines t = map (λ (l : DraftLine). l.line) t.code
-
-abbrev pub task_of : DraftTask → Task
-task_of t = record { name = t.name; thread = t.thread; limit = t.limit; code = code_of t }
-
--- the program of a draft
-abbrev pub program_of : Draft → Program
-program_of d = record { threads = d.threads; sources = d.sources; pipes = []; timers = []; tasks = map task_of d.tasks }
 
 -- the lines of its parts, with the line of the section's header
 abbrev pub lines_of_draft : ℕ → Draft → Lines
@@ -67,7 +56,8 @@ program_in count [] = Err (record { line = count + 1; cause = Missing })
 program_in count (line ∷ rest) =
     at_line line.number (first_header_in line.words) >> (λ e.
     section_in count empty_draft rest >> (λ x.
-    Ok (program_of x.0, lines_of_draft line.number x.0, x.1)))
+    program_of x.0 >> (λ program.
+    Ok (program, lines_of_draft line.number x.0, x.1))))
 
 -- the program that a text begins with
 abbrev pub program_at : List ℕ → Result (Program × Lines × List Line) JobFault

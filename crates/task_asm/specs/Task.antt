@@ -1,90 +1,19 @@
 -- The lines of a task: what each adds to the draft, or its first fault from the left.
-use Rattle.std.specs.Prelude.{ℕ, ◌+◌, ◌-◌, ◌&&◌, List, [], ◌∷◌, ◌++◌, length, Option, Some, None, Result, Ok, Err, is_some, nat_lt, nat_le, ◌==◌, codes, take, if◌then◌else◌}
+use Rattle.std.specs.Prelude.{ℕ, ◌+◌, ◌-◌, ◌&&◌, List, [], ◌∷◌, ◌++◌, length, Option, Some, None, Result, Ok, is_some, nat_lt, ◌==◌, codes, take, if◌then◌else◌}
 use Rattle.std.specs.List.{slice_index}
 use Rattle.std.specs.Str.{bytes_eq}
 use Rattle.ink_base.specs.Lines.{Word}
-use Rattle.ink_base.specs.Numbers.{is_digit}
 use Rattle.ink_base.specs.declared.fault.Cause.{Cause}
-use Rattle.ink_base.specs.declared.fault.Cause.TheVariants.{UnknownWord}
 use Rattle.ink_base.specs.Gives.{◌>>=◌}
-use Rattle.ink_base.specs.Checks.{word_in, number_in, end_in}
-use Rattle.task_isa.specs.declared.instr.Instr.{Instr}
-use Rattle.task_isa.specs.declared.instr.Instr.TheVariants.{Li, Add, Ev, Ld, St, Out, Done}
-use Rattle.task_asm.specs.declared.op.Op.{Op}
-use Rattle.task_asm.specs.declared.op.Op.TheVariants as ops
+use Rattle.ink_base.specs.Checks.{end_in}
 use Rattle.task_asm.specs.declared.draft.DraftTask.{DraftTask}
 use Rattle.task_asm.specs.declared.draft.Draft.{Draft}
 use Rattle.task_asm.specs.Labels.{offset_of, with_label}
 use Rattle.task_asm.specs.Named.{fresh_of}
 use Rattle.task_asm.specs.Ops.{op_of}
-use Rattle.task_asm.specs.Forms.{room, outside_line}
-
--- the register of a word, r0 to r15
-unfoldable pub register_of : Word → Result ℕ Cause
-register_of [] = Err UnknownWord
-register_of (r ∷ []) = Err UnknownWord
-register_of (r ∷ d ∷ []) = if r == 114 && is_digit d then Ok (d - 48) else Err UnknownWord
-register_of (r ∷ t ∷ d ∷ []) = if r == 114 && t == 49 && nat_le 48 d && nat_le d 53 then Ok (d - 38) else Err UnknownWord
-register_of (r ∷ t ∷ d ∷ b ∷ w) = Err UnknownWord
-
-unfoldable pub register_in : List Word → Result (ℕ × List Word) Cause
-register_in ws = do
-  w ← word_in ws
-  r ← register_of w.0
-  Ok (r, w.1)
-
--- a register, and the end of the line
-unfoldable pub one_in : List Word → Result ℕ Cause
-one_in ws = do
-  a ← register_in ws
-  e ← end_in a.1
-  Ok a.0
-
--- two registers, and the end of the line
-unfoldable pub two_in : List Word → Result (ℕ × ℕ) Cause
-two_in ws = do
-  a ← register_in ws
-  b ← one_in a.1
-  Ok (a.0, b)
-
--- three registers, and the end of the line
-unfoldable pub three_in : List Word → Result (ℕ × ℕ × ℕ) Cause
-three_in ws = do
-  a ← register_in ws
-  b ← two_in a.1
-  Ok (a.0, b.0, b.1)
-
--- a register and a number of 32 bits, and the end of the line
-unfoldable pub constant_in : List Word → Result (ℕ × ℕ) Cause
-constant_in ws = do
-  a ← register_in ws
-  i ← number_in 0 4294967295 a.1
-  e ← end_in i.1
-  Ok (a.0, i.0)
-
--- an instruction, by the words behind its first
-unfoldable pub instr_in : Op → List Word → Result Instr Cause
-instr_in ops.Li ws = do
-  x ← constant_in ws
-  Ok (Li x.0 x.1)
-instr_in ops.Add ws = do
-  x ← three_in ws
-  Ok (Add x.0 x.1 x.2)
-instr_in ops.Ev ws = do
-  a ← one_in ws
-  Ok (Ev a)
-instr_in ops.Ld ws = do
-  x ← two_in ws
-  Ok (Ld x.0 x.1)
-instr_in ops.St ws = do
-  x ← two_in ws
-  Ok (St x.0 x.1)
-instr_in ops.Out ws = do
-  a ← one_in ws
-  Ok (Out a)
-instr_in ops.Done ws = do
-  e ← end_in ws
-  Ok Done
+use Rattle.task_asm.specs.Operands.{instr_in}
+use Rattle.task_asm.specs.Forms.{room}
+use Rattle.task_asm.specs.Outside.{outside_line}
 
 -- what stands before a colon at the end of a word
 abbrev pub label_of : Word → Option Word
@@ -102,7 +31,7 @@ unfoldable pub instr_line : Draft → DraftTask → ℕ → Word → List Word �
 instr_line d task line w ws = do
   op ← op_of w
   free ← room 4096 d.count
-  instr ← instr_in op ws
+  instr ← instr_in d task.thread op ws
   Ok (record d { current = Some (record task { code = task.code ++ record { line = line; instr = instr } ∷ [] }); count = d.count + 1 })
 
 -- end

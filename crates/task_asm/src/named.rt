@@ -6,13 +6,13 @@ ghost use Rattle.std.specs.Str.{bytes_eq};
 ghost use Rattle.ink_base.specs.Checks.{words_of};
 ghost use Rattle.ink_base.specs.Gives.{Gives};
 ghost use Rattle.task_isa.specs.Names.{is_letter, goes_on_name, is_name};
-ghost use Rattle.task_asm.specs.Named.{place_of, is_taken, fresh_of, new_name_in, declared_in};
+ghost use Rattle.task_asm.specs.Named.{place_of, is_taken, fresh_of, name_of, new_name_in, declared_in};
 
 use crate::draft::DraftTask;
 use ink_base::checks::{first, is_digit};
 use ink_base::{Cause, LineError, Token};
 use std::alloc::Global;
-use task_isa::{Name, ThreadDef};
+use task_isa::{Name, PipeDef, ThreadDef, TimerDef};
 
 /// What has a name.
 pub trait Named {
@@ -26,6 +26,22 @@ pub trait Named {
 }
 
 impl Named for ThreadDef {
+    ghost name = { λ t. t.name };
+
+    fn is_named(&self, word: &[u8]) -> bool {
+        self.name.is(word)
+    }
+}
+
+impl Named for PipeDef {
+    ghost name = { λ p. p.name };
+
+    fn is_named(&self, word: &[u8]) -> bool {
+        self.name.is(word)
+    }
+}
+
+impl Named for TimerDef {
     ghost name = { λ t. t.name };
 
     fn is_named(&self, word: &[u8]) -> bool {
@@ -84,7 +100,18 @@ pub fn fresh(word: &[u8], taken: bool) -> Result<(), LineError>
     Ok(())
 }
 
-fn place_of<T: Named>(items: &[T], word: &[u8]) -> Option<usize>
+/// What has to be a name. Refused where it is none: `UnknownWord`.
+pub fn name_of(alloc: Global, word: &[u8]) -> Result<Name, LineError>
+    ensures { Gives (λ x. x) result (name_of word.now) }
+{
+    if !is_name(word) {
+        return Err(LineError::Fault(Cause::UnknownWord));
+    }
+    Ok(Name::new(alloc, word)?)
+}
+
+/// The place of the first item with this name.
+pub fn place_of<T: Named>(items: &[T], word: &[u8]) -> Option<usize>
     ensures place { result ≡ place_of T.name items.now word.now }
     ensures within { IfSome result (λ place. place < length items.now) }
 {

@@ -1,12 +1,13 @@
 //! The section of a program.
 
-ghost use Rattle.std.specs.Prelude.{◌≡◌, ◌<◌, ◌≤◌, ◌^◌, length, drop, IfOk};
+ghost use Rattle.std.specs.Prelude.{◌≡◌, ◌<◌, ◌≤◌, ◌^◌, length, drop, IfOk, OnOk};
 ghost use Rattle.ink_base.specs.Checks.{words_of};
 ghost use Rattle.ink_base.specs.Gives.{Gives, GivesJob, LeavesJob, at_line};
 ghost use Rattle.ink_base.specs.Suffix.{IsSuffix};
 ghost use Rattle.ink_base.specs.TokenLines.{token_lines};
 ghost use Rattle.ink_base.specs.Tokens.{AreTokens};
 ghost use Rattle.task_asm.specs.Section.{is_header, header_in, first_header_in, section_in, program_in, program_at, empty_draft};
+ghost use Rattle.task_asm.specs.Place.{HasPlace};
 ghost use Rattle.task_asm.specs.Task.{line_in};
 
 use crate::draft::Draft;
@@ -66,7 +67,9 @@ fn judged_line(
     line: u32,
     words: &[Token],
 ) -> Result<(), JobAnswer>
-    ensures { LeavesJob result draft.new (at_line line (line_in draft.old line (words_of text.now words.now))) }
+    requires { HasPlace draft.old }
+    ensures given { LeavesJob result draft.new (at_line line (line_in draft.old line (words_of text.now words.now))) }
+    ensures place { OnOk result (HasPlace draft.new) }
 {
     match read_line(alloc, draft, text, line, words) {
         Ok(()) => Ok(()),
@@ -81,7 +84,9 @@ fn empty_draft(alloc: Global) -> Draft
         threads: Few::new(alloc),
         thread_lines: Items::new(alloc),
         sources: Items::new(alloc),
-        tasks: Items::new(alloc),
+        pipes: Few::new(alloc),
+        timers: Few::new(alloc),
+        tasks: Few::new(alloc),
         current: None,
         count: 0,
     }

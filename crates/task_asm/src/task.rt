@@ -1,16 +1,18 @@
 //! The lines of a task.
 
-ghost use Rattle.std.specs.Prelude.{◌≡◌};
+ghost use Rattle.std.specs.Prelude.{◌≡◌, ◌<◌, length, IsNone, OnOk};
 ghost use Rattle.std.specs.Option.{option_map};
 ghost use Rattle.ink_base.specs.Checks.{words_of};
 ghost use Rattle.ink_base.specs.Gives.{Leaves};
+ghost use Rattle.task_asm.specs.Place.{HasPlace};
 ghost use Rattle.task_asm.specs.Task.{label_of, label_line, instr_line, end_line, inside_line, line_in};
 
 use crate::draft::{Draft, DraftLine, DraftTask};
-use crate::forms::{read_outside, room};
+use crate::forms::room;
 use crate::named::fresh;
 use crate::op::op_of;
 use crate::operands::instr;
+use crate::outside::read_outside;
 use ink_base::checks::{end, word};
 use ink_base::{LineError, Token};
 use std::alloc::Global;
@@ -34,7 +36,9 @@ fn read_label(
     name: &[u8],
     words: &[Token],
 ) -> Result<(), LineError>
-    ensures { Leaves result draft.new (label_line draft.old task name.now (words_of text.now words.now)) }
+    requires { length draft.old.tasks < 256 }
+    ensures given { Leaves result draft.new (label_line draft.old task name.now (words_of text.now words.now)) }
+    ensures place { OnOk result (HasPlace draft.new) }
 {
     fresh(name, task.labels.get(name).is_some())?;
     end(text, words)?;
@@ -46,6 +50,7 @@ fn read_label(
 
 #[tactic(auto, unfolding(crate::specs::Task::instr_line))]
 fn read_instr(
+    alloc: Global,
     draft: &mut Draft,
     mut task: DraftTask,
     text: &[u8],
@@ -53,11 +58,13 @@ fn read_instr(
     word: &[u8],
     words: &[Token],
 ) -> Result<(), LineError>
-    ensures { Leaves result draft.new (instr_line draft.old task line word.now (words_of text.now words.now)) }
+    requires { length draft.old.tasks < 256 }
+    ensures given { Leaves result draft.new (instr_line draft.old task line word.now (words_of text.now words.now)) }
+    ensures place { OnOk result (HasPlace draft.new) }
 {
     let op = op_of(word)?;
     room(4096, draft.count as usize)?;
-    let instr = instr(op, text, words)?;
+    let instr = instr(alloc, draft, task.thread, op, text, words)?;
     task.code.push(DraftLine { line, instr })?;
     draft.current = Some(task);
     draft.count += 1;
@@ -71,7 +78,10 @@ fn read_end(
     text: &[u8],
     words: &[Token],
 ) -> Result<(), LineError>
-    ensures { Leaves result draft.new (end_line draft.old task (words_of text.now words.now)) }
+    requires closed { IsNone draft.old.current }
+    requires place { length draft.old.tasks < 256 }
+    ensures given { Leaves result draft.new (end_line draft.old task (words_of text.now words.now)) }
+    ensures place { OnOk result (HasPlace draft.new) }
 {
     end(text, words)?;
     draft.tasks.push(task)?;
@@ -88,14 +98,17 @@ fn read_inside(
     word: &[u8],
     words: &[Token],
 ) -> Result<(), LineError>
-    ensures { Leaves result draft.new (inside_line draft.old task line word.now (words_of text.now words.now)) }
+    requires closed { IsNone draft.old.current }
+    requires place { length draft.old.tasks < 256 }
+    ensures given { Leaves result draft.new (inside_line draft.old task line word.now (words_of text.now words.now)) }
+    ensures place { OnOk result (HasPlace draft.new) }
 {
     if word == b"end".as_slice() {
         return read_end(draft, task, text, words);
     }
     match label_of(word) {
         Some(name) => read_label(alloc, draft, task, text, name, words),
-        None => read_instr(draft, task, text, line, word, words),
+        None => read_instr(alloc, draft, task, text, line, word, words),
     }
 }
 
@@ -108,7 +121,9 @@ pub fn read_line(
     line: u32,
     words: &[Token],
 ) -> Result<(), LineError>
-    ensures { Leaves result draft.new (line_in draft.old line (words_of text.now words.now)) }
+    requires { HasPlace draft.old }
+    ensures given { Leaves result draft.new (line_in draft.old line (words_of text.now words.now)) }
+    ensures place { OnOk result (HasPlace draft.new) }
 {
     match words {
         [] => Ok(()),

@@ -21,16 +21,17 @@ returns-then-is_header-clause-given c =
 pub returns-in-Err-judged_line-clause-given : goal.returns-in-Err-judged_line-clause-given
 returns-in-Err-judged_line-clause-given c =
     line_fails c.args.lines c.loop-rest.draft _ _ _ c.in-Err-judged_line.e (sym c.is_header.ensures ∙ c.if-is_header.false)
-    (ap (section_in c.args.lines c.loop-rest.draft) (sym (c.split_line-line.ensures.line c.args.text.now)) ∙ c.loop-rest.invariant.0) c.in-Err-judged_line.ensures
+    (ap (section_in c.args.lines c.loop-rest.draft) (sym (c.split_line-line.ensures.line c.args.text.now)) ∙ c.loop-rest.invariant.0) c.in-Err-judged_line.ensures.given
 
 pub loop-rest-init : goal.loop-rest-init
-loop-rest-init c = (rw c.empty_draft-draft.ensures refl, IsSuffix-all c.args.tokens.now)
+loop-rest-init c = (rw c.empty_draft-draft.ensures refl, IsSuffix-all c.args.tokens.now, rw c.empty_draft-draft.ensures (λ task some. absurd (cc)))
 
 pub loop-rest-preserved : goal.loop-rest-preserved
 loop-rest-preserved c = (
   line_goes_on c.args.lines c.loop-rest.draft _ _ _ c.judged_line.new.draft (sym c.is_header.ensures ∙ c.if-is_header.false)
-      (ap (section_in c.args.lines c.loop-rest.draft) (sym (c.split_line-line.ensures.line c.args.text.now)) ∙ c.loop-rest.invariant.0) c.in_default-judged_line.ensures,
+      (ap (section_in c.args.lines c.loop-rest.draft) (sym (c.split_line-line.ensures.line c.args.text.now)) ∙ c.loop-rest.invariant.0) c.in_default-judged_line.ensures.given,
   IsSuffix-then c.split_line-line.result.2.now c.loop-rest.rest.now c.args.tokens.now c.split_line-line.ensures.suffix c.loop-rest.invariant.1,
+  c.in_default-judged_line.ensures.place,
 )
 
 pub returns-clause-given : goal.returns-clause-given

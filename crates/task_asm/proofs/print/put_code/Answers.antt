@@ -1,0 +1,12 @@
+use Rattle.std.proofs.Common.{List, ℕ, ◌++◌, sym, ap, ◌∙◌, append_assoc}
+use Rattle.task_asm.specs.Print.{each_below, line_text}
+use Rattle.task_asm.proofs.Printing.{each_below_more}
+use Rattle.task_asm.proofs.print.put_code.Goals as goal
+
+pub loop-offset-preserved : goal.loop-offset-preserved
+loop-offset-preserved c =
+    let text : ℕ → List ℕ = line_text c.args.program.now c.args.task.now in
+    let offset = c.loop-offset.offset in
+    c.in_ok-put_line.ensures ∙ ap (λ (so : List ℕ). so ++ text offset) c.loop-offset.invariant
+    ∙ append_assoc c.args.out.now.items (each_below offset text) (text offset)
+    ∙ ap (λ (so : List ℕ). c.args.out.now.items ++ so) (sym (each_below_more offset text))

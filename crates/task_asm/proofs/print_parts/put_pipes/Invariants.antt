@@ -1,0 +1,7 @@
+use Rattle.std.proofs.Common.{◌≡◌, ◌++◌, take}
+use Rattle.std.specs.Prelude.{flat_map}
+use Rattle.task_asm.specs.Print.{pipe_text}
+use Rattle.task_asm.proofs.print_parts.put_pipes.Given as goal
+
+abbrev pub invariant-loop-pipe : goal.invariant-loop-pipe
+invariant-loop-pipe l = l.out.items ≡ l.fn.out.items ++ flat_map (pipe_text l.program) (take l.pipe-index l.pipes)
