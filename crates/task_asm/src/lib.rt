@@ -1,4 +1,4 @@
-//! Reads the section of a job text that gives its program.
+//! Reads and prints the section of a job text that gives its program.
 #![tactic(auto)]
 
 mod devices;
