@@ -8,6 +8,8 @@ use kernel_core::RunRecord;
 use std::process::Abort;
 use std::test::Fail;
 
+mod programs;
+
 /// A job of one thread that adds up its readings, and what its run prints.
 #[derive(Clone, Copy)]
 struct Case<'a> {
