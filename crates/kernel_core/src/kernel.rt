@@ -1,12 +1,8 @@
 //! Boot, scan and task as one machine.
-ghost use Rattle.std.specs.Prelude.{◌≡◌, ◌+◌, ◌<◌, ◌^◌};
+ghost use Rattle.std.specs.Prelude.{◌≡◌};
 ghost use Rattle.ink_layout.specs.Addresses.{at_layout};
-ghost use Rattle.task_run.specs.Fits.{FitsTask};
-ghost use Rattle.reboot.specs.Boot.{IsBoot, IsBootWord};
-ghost use Rattle.priority_sched.specs.Scan.{IsScan, IsScanWord};
-ghost use Rattle.kernel_core.specs.Kernel.{first_kernel, begin_scan, wants, takes, point_found, slot_wanted, booted, scanned, after_task};
+ghost use Rattle.kernel_core.specs.Kernel.{first_kernel, begin_scan, wants, takes, point_found, slot_wanted};
 ghost use Rattle.kernel_core.specs.Fits.{CanWant, CanTake};
-ghost use Rattle.kernel_core.specs.declared.kernel.Kernel.TheVariants as kernels;
 
 use fram_words::Access;
 use ink_layout::{KernelPoint, Plan, SlotAt};
@@ -49,9 +45,33 @@ impl Kernel {
         ensures registers { self.new ≡ takes plan.now.accepted self.old word }
         ensures point { result ≡ point_found plan.now.accepted self.old word }
     {
-        let (next, point) = self.taken(plan, word);
-        *self = next;
-        point
+        match self {
+            Kernel::Boot(boot) => {
+                let point = boot.take(plan, word);
+                if let Some(stamp) = boot.stamp() {
+                    *self = begin_scan(stamp);
+                }
+                point
+            }
+            Kernel::Scan { stamp, scan } => {
+                let point = scan.take(plan, word);
+                match scan.result() {
+                    Some(Scanned::Pick(pick)) => {
+                        *self = Kernel::Task(TaskMachine::begin(pick, *stamp));
+                    }
+                    Some(Scanned::Quiet) => *scan = ScanMachine::begin(),
+                    None => {}
+                }
+                point
+            }
+            Kernel::Task(machine) => {
+                let point = machine.take(plan, word);
+                if machine.is_over() {
+                    *self = begin_scan(machine.stamp + 1);
+                }
+                point
+            }
+        }
     }
 
     /// The queue and the position of the event that the wanted access looks for, acknowledges or releases; none exactly where it is
@@ -66,37 +86,6 @@ impl Kernel {
             Kernel::Task(machine) => machine.slot_wanted(plan),
         }
     }
-
-    fn taken(self, plan: &Plan, word: u64) -> (Kernel, KernelPoint)
-        requires { CanTake plan.now.accepted self word }
-        ensures registers { result.0 ≡ takes plan.now.accepted self word }
-        ensures point { result.1 ≡ point_found plan.now.accepted self word }
-    {
-        match self {
-            Kernel::Boot(boot) => boot_taken(boot, plan, word),
-            Kernel::Scan { stamp, scan } => scan_taken(stamp, scan, plan, word),
-            Kernel::Task(machine) => task_taken(machine, plan, word),
-        }
-    }
-}
-
-fn boot_taken(mut boot: BootMachine, plan: &Plan, word: u64) -> (Kernel, KernelPoint)
-    requires row { IsBoot plan.now.accepted boot }
-    requires range { IsBootWord plan.now.accepted boot.at word }
-    ensures registers { result.0 ≡ takes plan.now.accepted (kernels.Boot boot) word }
-    ensures point { result.1 ≡ point_found plan.now.accepted (kernels.Boot boot) word }
-{
-    let point = boot.take(plan, word);
-    (booted(boot), point)
-}
-
-fn booted(boot: BootMachine) -> Kernel
-    ensures { result ≡ booted boot }
-{
-    match boot.stamp() {
-        Some(stamp) => begin_scan(stamp),
-        None => Kernel::Boot(boot),
-    }
 }
 
 fn begin_scan(stamp: u64) -> Kernel
@@ -105,45 +94,5 @@ fn begin_scan(stamp: u64) -> Kernel
     Kernel::Scan {
         stamp,
         scan: ScanMachine::begin(),
-    }
-}
-
-fn scan_taken(stamp: u64, mut scan: ScanMachine, plan: &Plan, word: u64) -> (Kernel, KernelPoint)
-    requires row { IsScan plan.now.accepted scan }
-    requires range { IsScanWord plan.now.accepted scan.at word }
-    ensures registers { result.0 ≡ takes plan.now.accepted (kernels.Scan stamp scan) word }
-    ensures point { result.1 ≡ point_found plan.now.accepted (kernels.Scan stamp scan) word }
-{
-    let point = scan.take(plan, word);
-    (scanned(stamp, scan), point)
-}
-
-fn scanned(stamp: u64, scan: ScanMachine) -> Kernel
-    ensures { result ≡ scanned stamp scan }
-{
-    match scan.result() {
-        Some(Scanned::Pick(pick)) => Kernel::Task(TaskMachine::begin(pick, stamp)),
-        Some(Scanned::Quiet) => begin_scan(stamp),
-        None => Kernel::Scan { stamp, scan },
-    }
-}
-
-fn task_taken(mut machine: TaskMachine, plan: &Plan, word: u64) -> (Kernel, KernelPoint)
-    requires { FitsTask plan.now.accepted machine word }
-    ensures registers { result.0 ≡ takes plan.now.accepted (kernels.Task machine) word }
-    ensures point { result.1 ≡ point_found plan.now.accepted (kernels.Task machine) word }
-{
-    let point = machine.take(plan, word);
-    (served(machine), point)
-}
-
-fn served(machine: TaskMachine) -> Kernel
-    requires { machine.stamp + 1 < 2 ^ 32 }
-    ensures { result ≡ after_task machine }
-{
-    if machine.is_over() {
-        begin_scan(machine.stamp + 1)
-    } else {
-        Kernel::Task(machine)
     }
 }

@@ -72,7 +72,7 @@ impl ScanMachine {
         ensures point { result ≡ scan_point self.old.thread self.old.at word }
     {
         let point = self.point(word);
-        *self = self.following(plan, word);
+        self.follow(plan, word);
         point
     }
 
@@ -92,8 +92,8 @@ impl ScanMachine {
     }
 
     /// What the access stands for, where it found this word.
-    fn point(self, word: u64) -> KernelPoint
-        ensures { result ≡ scan_point self.thread self.at word }
+    fn point(&self, word: u64) -> KernelPoint
+        ensures { result ≡ scan_point self.now.thread self.now.at word }
     {
         match self.at {
             ScanAt::Clock => KernelPoint::Scan,
