@@ -127,10 +127,18 @@ impl Replaying {
     pub fn begin_scan(&mut self, alloc: Global)
         ensures { model_of self.new ≡ record (model_of self.old) { scan = Some (record { time = self.old.clock; looked = [] }) } }
     {
-        self.scan = Some(ScanModel {
-            time: self.clock,
-            looked: Items::new(alloc),
-        });
+        match &mut self.scan {
+            Some(scan) => {
+                scan.time = self.clock;
+                clear(&mut scan.looked);
+            }
+            None => {
+                self.scan = Some(ScanModel {
+                    time: self.clock,
+                    looked: Items::new(alloc),
+                });
+            }
+        }
     }
 
     pub fn look(&mut self, program: &Program, thread: ThreadId) -> Result<(), NoMemory>
@@ -150,6 +158,13 @@ impl Replaying {
         let thread = &mut self.threads[usize::from(thread.0)];
         release_first(thread);
     }
+}
+
+/// Takes all threads out of a list, which keeps its memory.
+fn clear(list: &mut Items<ThreadId>)
+    ensures { list.new ≡ [] }
+{
+    while list.pop().is_some() {}
 }
 
 fn release_first(thread: &mut ThreadModel)
