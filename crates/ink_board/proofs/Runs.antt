@@ -21,8 +21,10 @@ use Rattle.kernel_core.specs.declared.run_record.RunRecord.{RunRecord}
 use Rattle.kernel_core.specs.declared.charge_record.ChargeRecord.{ChargeRecord}
 use Rattle.kernel_core.specs.Board.{journal}
 use Rattle.kernel_core.specs.Core.{setup_of}
+use Rattle.kernel_core.specs.Scanned.{ChargesAreScanned}
 use Rattle.kernel_core.proofs.JobMoves.{job_prefixes_stand}
 use Rattle.kernel_core.proofs.Growth.{run_grows, run_few, run_legal, run_journal}
+use Rattle.kernel_core.proofs.Scanned.{run_scanned}
 use Rattle.ink_board.specs.Run.{board_run, entries_of, journal_in, IsRunOf}
 
 module _ (job : JobParts) (first : List ℕ) (r : RunRecord) (is : IsJob job) (plain : IsPlain job.program) (code : HasCode job.program) (image : IsFirstImage job.program first) (charges : r.charges ≡ (board_run job first).charges) where
@@ -47,6 +49,7 @@ module _ (job : JobParts) (first : List ℕ) (r : RunRecord) (is : IsJob job) (p
     each_once = each_event_once job.program job.readings (journal_in r) legal_in;
     states = states_by_commits job.program job.readings (journal_in r);
     stamps = stamps_by_commits job.program job.readings (journal_in r) legal_in;
+    scanned = subst (λ (l : List ChargeRecord). ChargesAreScanned l) (sym charges) (run_scanned job first is);
   }
 
 -- each entry of a legal journal is legal in its place

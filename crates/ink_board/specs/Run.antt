@@ -12,6 +12,7 @@ use Rattle.kernel_core.specs.Board.{Board, journal}
 use Rattle.kernel_core.specs.Holds.{BoardStands}
 use Rattle.kernel_core.specs.Listed.{run, run_first}
 use Rattle.kernel_core.specs.Core.{setup_of}
+use Rattle.kernel_core.specs.Scanned.{ChargesAreScanned}
 use Rattle.ink_report.specs.Report as report
 
 -- the board of a job after the first so many cuts and turns that it lists, from these words on, and after all
@@ -30,7 +31,7 @@ journal_in r = flat_map entries_of r.charges
 
 -- The board ran the job from the words of its first image on, and the record is what it left behind. After each access and each cut the
 -- words stood for the never-cut kernel after the journal so far, which was legal and a beginning of the record's. The record's journal is
--- legal, and keeps the laws of legal journals.
+-- legal, and keeps the laws of legal journals. In each charge a commit stands behind a scan of that charge.
 pub record IsRunOf (job : JobParts) (r : RunRecord) : Type 0 where
   pub job_is : r.job ≡ job
   pub first : List ℕ
@@ -45,6 +46,7 @@ pub record IsRunOf (job : JobParts) (r : RunRecord) : Type 0 where
   pub each_once : EachEventOnce job.program job.readings (journal_in r)
   pub states : StatesByCommits job.program job.readings (journal_in r)
   pub stamps : StampsByCommits job.program job.readings (journal_in r)
+  pub scanned : ChargesAreScanned r.charges
 
 -- the text of a record: the outputs that its journal committed, and the summary
 abbrev pub text_of : RunRecord → List ℕ

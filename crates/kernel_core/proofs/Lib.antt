@@ -21,3 +21,4 @@ pub mod CoreRuns
 pub mod JobMoves
 pub mod Starts
 pub mod Growth
+pub mod Scanned

@@ -11,3 +11,4 @@ pub mod Made
 pub mod Recorded
 pub mod Starts
 pub mod Room
+pub mod Scanned

@@ -108,8 +108,7 @@ impl Core {
         space.fill(job, charges, &fram)
     }
 
-    /// The job.
-    pub fn job(&self) -> &Job
+    pub(crate) fn job(&self) -> &Job
         ensures { result.now ≡ self.now.job }
     {
         &self.job

@@ -1,6 +1,7 @@
--- The law, from the first board on.
+-- The laws, from the first board on.
 use Rattle.kernel_core.proofs.Firsts.{every_prefix}
+use Rattle.kernel_core.proofs.Scanned.{every_commit_scanned}
 use Rattle.kernel_core.proofs.laws.boards_stand.Goals as goal
 
 pub returns : goal.returns
-returns c = record { stands = every_prefix }
+returns c = record { stands = every_prefix; scanned = every_commit_scanned }
