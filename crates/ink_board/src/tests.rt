@@ -8,6 +8,7 @@ use kernel_core::RunRecord;
 use std::process::Abort;
 use std::test::Fail;
 
+mod limits;
 mod programs;
 
 /// A job of one thread that adds up its readings, and what its run prints.
