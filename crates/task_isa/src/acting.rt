@@ -10,6 +10,7 @@ use crate::reg::Reg;
 use ink_base::{Event, Origin};
 
 /// What the instruction at offset `at` does, given the event that is served, the scan's time in ticks and the sixteen registers.
+#[inline(always)]
 #[tactic(auto, unfolding(crate::specs::Acts::act_of))]
 pub fn act_for(instr: Instr, event: &Event, time: u64, at: u32, registers: &[u32; 16]) -> Act
     requires { at < 2 ^ 32 - 1 }

@@ -26,6 +26,7 @@ pub fn decode(word: u64) -> Option<Instr>
 }
 
 // The instruction of the word's form, where it has the word.
+#[inline(always)]
 #[tactic(auto, unfolding(crate::specs::Code::decoded))]
 fn read_word(word: u64) -> Option<Instr>
     ensures { result ≡ decoded word }
@@ -36,6 +37,7 @@ fn read_word(word: u64) -> Option<Instr>
     }
 }
 
+#[inline(always)]
 fn word_of(instr: &Instr) -> u64
     ensures word { result ≡ word_of_instr instr.now }
     ensures fits { IsInstr instr.now }
@@ -100,6 +102,7 @@ fn read_form(word: u64) -> Option<Instr>
 }
 
 // The instruction with this opcode and these operands.
+#[inline(always)]
 #[tactic(auto, unfolding(crate::specs::Code::form_of))]
 fn form(op: u8, a: Reg, b: Reg, c: Reg, i: u32) -> Option<Instr>
     ensures { result ≡ form_of op a b c i }
