@@ -38,6 +38,7 @@ bit_of b = if b then 1 else 0
 abbrev pub divided : ℕ → Act → Act
 divided divisor act = if divisor == 0 then Traps Divisor else act
 
+-- what each instruction does; a value that is sent, a delay and a period have 32 bits, as registers have
 unfoldable pub act_of : Instr → Given → Cpu → Act
 act_of (Li a i) given cpu = Sets a i
 act_of (Mov a b) given cpu = Sets a (reg cpu b)
@@ -63,8 +64,8 @@ act_of (Now a) given cpu = Sets a (given.time % 2 ^ 32)
 act_of (Ld a b) given cpu = Loads a (reg cpu b)
 act_of (St a b) given cpu = Saves (reg cpu b) (reg cpu a)
 act_of (Out a) given cpu = Puts (reg cpu a)
-act_of (Send i a b) given cpu = Sends i a (reg cpu b)
-act_of (Arm i a b) given cpu = Arms i (reg cpu a) (reg cpu b)
+act_of (Send i a b) given cpu = Sends i a (reg cpu b % 2 ^ 32)
+act_of (Arm i a b) given cpu = Arms i (reg cpu a % 2 ^ 32) (reg cpu b % 2 ^ 32)
 act_of (Stop i) given cpu = Stops i
 act_of (Next i) given cpu = Continues i
 act_of Done given cpu = Ends
