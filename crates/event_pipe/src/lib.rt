@@ -1,0 +1,8 @@
+//! Event pipes: what the counts of written and taken items tell, and where an item stands.
+#![tactic(auto)]
+
+mod ring;
+#[cfg(test)]
+mod tests;
+
+pub use ring::{has_item, has_room, ring_at};
