@@ -17,6 +17,7 @@ pub fn encode(instr: Instr) -> u64
 }
 
 /// The instruction that has this word; none exactly where no instruction has it.
+#[inline(always)]
 pub fn decode(word: u64) -> Option<Instr>
     ensures computed { result ≡ decoded word }
     ensures some { IfSome result (λ instr. word_of_instr instr ≡ word) }
