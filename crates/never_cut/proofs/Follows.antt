@@ -12,7 +12,6 @@ use Rattle.never_cut.specs.State.{thread_of}
 use Rattle.never_cut.specs.Entries.{IsCalm}
 use Rattle.never_cut.specs.Stands.{flag, StandsPrivate}
 use Rattle.never_cut.specs.Actors.{SamePrivate, Follows, IsFirstHeld, IsFinishing, without_held}
-use Rattle.never_cut.specs.Picked.{AreIdle}
 use Rattle.never_cut.proofs.Privates.{SamePrivately, private_stays, blocks_same}
 use Rattle.never_cut.proofs.Releases.{saved_by}
 
@@ -28,8 +27,11 @@ follow_running m next t f = ap (λ (x : ThreadModel). x.running) (f.threads t)
 pub follow_calm : (program : Program) (m next : Model) → Follows m next → IsCalm program m → IsCalm program next
 follow_calm program m next f calm = λ t known. follow_finished m next t f ∙ calm t known
 
-pub follow_idle : (m next : Model) → Follows m next → AreIdle m → AreIdle next
-follow_idle m next f idle = λ t. follow_running m next t f ∙ idle t
+pub follow_event : (m next : Model) (t : ℕ) → Follows m next → (thread_of next t).event ≡ (thread_of m t).event
+follow_event m next t f = ap (λ (x : ThreadModel). x.event) (f.threads t)
+
+pub follow_first_commit : (m next : Model) (t : ℕ) → Follows m next → (thread_of next t).first ≡ (thread_of m t).first
+follow_first_commit m next t f = ap (λ (x : ThreadModel). x.first) (f.threads t)
 
 pub follow_first : (m next : Model) (t : ℕ) (e : Event) → Follows m next → IsFirstHeld m t e → IsFirstHeld next t e
 follow_first m next t e f h = (h.0 ++ f.more t, f.held t ∙ ap (λ l. l ++ f.more t) h.1)

@@ -1,25 +1,48 @@
--- A sound state of a plain program, by the parts that its entries change.
-use Rattle.std.proofs.Common.{◌≡◌, ℕ, ◌+◌, ◌<◌, ◌≤◌, true, length, Some, None, sym, ap, ◌∙◌, arith}
+-- A sound state, by the parts that its entries change.
+use Rattle.std.proofs.Common.{◌≡◌, ℕ, ◌+◌, ◌%◌, ◌^◌, ◌<◌, ◌≤◌, true, false, List, length, get_or, Some, None}
+use Rattle.std.specs.Prelude.{slice_index}
 use Rattle.std.specs.Option.{ForSome}
+use Rattle.ink_base.specs.declared.event.Event.{Event}
+use Rattle.ink_base.specs.declared.event.Origin.TheVariants as origins
 use Rattle.task_isa.specs.declared.program.Program.{Program}
-use Rattle.prog_check.specs.Lookup.{thread_def}
+use Rattle.prog_check.specs.Lookup.{thread_def, pipe_def, timer_def, task_def}
 use Rattle.never_cut.specs.declared.model.Model.{Model}
 use Rattle.never_cut.specs.declared.thread_model.ThreadModel.{ThreadModel}
-use Rattle.never_cut.specs.State.{thread_of}
+use Rattle.never_cut.specs.declared.pipe_model.PipeModel.{PipeModel}
+use Rattle.never_cut.specs.declared.timer_model.TimerModel.{TimerModel}
+use Rattle.never_cut.specs.State.{thread_of, no_pipe, no_timer}
 use Rattle.never_cut.specs.Commit.{outputs_of}
 use Rattle.never_cut.specs.Entries.{Readings, IsCalm}
 use Rattle.never_cut.specs.Stands.{published, event_at}
 use Rattle.never_cut.specs.Sound.{IsSound, IsSoundThread, IsSoundSource, IsQueued, accepted_into}
-use Rattle.never_cut.specs.Plain.{IsPlain}
-use Rattle.never_cut.specs.Picked.{AreIdle}
 
--- an idle thread, with so many accepted events and outputs, at this clock and number of commits
-pub record IsSoundAt (program : Program) (t : ℕ) (x : ThreadModel) (accepted outs clock commits : ℕ) : Type 0 where
+-- how many items were taken from each pipe
+abbrev pub taken_in : List PipeModel → ℕ → ℕ
+taken_in pipes q = (get_or pipes q no_pipe).taken
+
+-- the event that a chain of thread t serves, where its queue holds these events, and so many items of each pipe were taken
+abbrev pub IsServedBy : Program → (taken : ℕ → ℕ) → (t : ℕ) → (held : List Event) → Event → Type 0
+IsServedBy program taken t held e = elim e.origin [
+  | origins.Source source count ↦ (0 < length held) × (event_at held 0 ≡ e)
+  | origins.Pipe pipe item ↦ (pipe.0 < length program.pipes) × ((pipe_def program pipe.0).reader.0 ≡ t) × (item + 1 ≡ taken pipe.0) × (e.value < 2 ^ 32)
+  | origins.Timer timer deadline ↦ (timer.0 < length program.timers) × ((timer_def program timer.0).thread.0 ≡ t) × (deadline < 2 ^ 48) × (e.value ≡ deadline % 2 ^ 32)
+]
+
+pub record IsChainAt (program : Program) (taken : ℕ → ℕ) (t : ℕ) (x : ThreadModel) (task : ℕ) : Type 0 where
+  pub known : task < length program.tasks
+  pub own : (task_def program task).thread.0 ≡ t
+  pub event : Event
+  pub is : x.event ≡ Some event
+  pub served : IsServedBy program taken t x.held event
+  pub unfinished : x.finished ≡ false
+
+-- a thread, with so many items taken from the pipes, so many accepted events and outputs, at this clock and number of commits
+pub record IsSoundAt (program : Program) (taken : ℕ → ℕ) (t : ℕ) (x : ThreadModel) (accepted outs clock commits : ℕ) : Type 0 where
   pub published_is : published x ≡ accepted
   pub queued : (k : ℕ) → k < length x.held → IsQueued program t (event_at x.held k)
-  pub finished : x.finished ≡ true → 0 < length x.held
-  pub idle : x.running ≡ None
-  pub event : x.event ≡ None
+  pub finished : x.finished ≡ true → (0 < length x.held) × (x.running ≡ None)
+  pub idle : x.running ≡ None → x.event ≡ None
+  pub chain : ForSome x.running (λ task. IsChainAt program taken t x task.0)
   pub outputs : outs ≤ (thread_def program t).log
   pub first : x.first ≤ clock
   pub totals : x.served + x.trapped + x.expired ≤ commits
@@ -27,42 +50,68 @@ pub record IsSoundAt (program : Program) (t : ℕ) (x : ThreadModel) (accepted o
 
 abbrev pub ThreadSound : Program → Model → ℕ → Type 0
 ThreadSound program m t =
-    IsSoundAt program t (thread_of m t) (accepted_into program m t (length program.sources)) (length (outputs_of m t)) m.clock m.commits
+    IsSoundAt program (taken_in m.pipes) t (thread_of m t) (accepted_into program m t (length program.sources)) (length (outputs_of m t)) m.clock m.commits
 
-pub record IsPlainSound (program : Program) (readings : Readings) (m : Model) : Type 0 where
+-- a pipe of so many places, after so many commits
+pub record IsSoundPipeAt (places : ℕ) (p : PipeModel) (commits : ℕ) : Type 0 where
+  pub room : length p.items ≤ places
+  pub values : (k : ℕ) → slice_index p.items k < 2 ^ 32
+  pub few : p.taken ≤ commits
+
+abbrev pub PipesSound : Program → List PipeModel → ℕ → Type 0
+PipesSound program pipes commits = (q : ℕ) → q < length program.pipes → IsSoundPipeAt (pipe_def program q).places (get_or pipes q no_pipe) commits
+
+pub record IsSoundTimerAt (x : TimerModel) : Type 0 where
+  pub due : ForSome x.due (λ due. due < 2 ^ 48)
+  pub period : x.period < 2 ^ 32
+
+abbrev pub TimersSound : Program → List TimerModel → Type 0
+TimersSound program timers = (j : ℕ) → j < length program.timers → IsSoundTimerAt (get_or timers j no_timer)
+
+pub record HasSoundParts (program : Program) (readings : Readings) (m : Model) : Type 0 where
   pub threads_count : length m.threads ≡ length program.threads
   pub pipes_count : length m.pipes ≡ length program.pipes
   pub timers_count : length m.timers ≡ length program.timers
   pub sources_count : length m.sources ≡ length program.sources
   pub threads : (t : ℕ) → t < length program.threads → ThreadSound program m t
+  pub pipes : PipesSound program m.pipes m.commits
+  pub timers : TimersSound program m.timers
   pub sources : (i : ℕ) → i < length program.sources → IsSoundSource readings m i
-  pub idle : AreIdle m
+  pub clock : m.clock < 2 ^ 47
   pub scan : ForSome m.scan (λ scan. scan.time ≤ m.clock)
+  pub begun : ForSome m.scan (λ scan. (t : ℕ) → (thread_of m t).first ≤ scan.time)
   pub calm : ForSome m.scan (λ scan. IsCalm program m)
 
-pub plain_of : (program : Program) (readings : Readings) (m : Model) → IsSound program readings m → AreIdle m → IsPlainSound program readings m
-plain_of program readings m h idle =
+thread_parts : (program : Program) (m : Model) (t : ℕ) → length (thread_of m t).state ≡ (thread_def program t).state → IsSoundThread program m t → ThreadSound program m t
+thread_parts program m t size x =
+    record {
+      published_is = x.published_is;
+      queued = x.queued;
+      finished = x.finished;
+      idle = x.idle;
+      chain = λ task is.
+          let c = x.chain task is in
+          record { known = c.known; own = c.own; event = c.event; is = c.is; served = c.served; unfinished = c.unfinished };
+      outputs = x.outputs;
+      first = x.first;
+      totals = x.totals;
+      size = size;
+    }
+
+pub parts_of : (program : Program) (readings : Readings) (m : Model) → IsSound program readings m → HasSoundParts program readings m
+parts_of program readings m h =
     record {
       threads_count = h.shape.threads;
       pipes_count = h.shape.pipes;
       timers_count = h.shape.timers;
       sources_count = h.shape.sources;
-      threads = λ t lt.
-          let x = h.threads t lt in
-          record {
-            published_is = x.published_is;
-            queued = x.queued;
-            finished = λ is. (x.finished is).0;
-            idle = idle t;
-            event = x.idle (idle t);
-            outputs = x.outputs;
-            first = x.first;
-            totals = x.totals;
-            size = h.shape.states t lt;
-          };
+      threads = λ t lt. thread_parts program m t (h.shape.states t lt) (h.threads t lt);
+      pipes = λ q lt. let p = h.pipes q lt in record { room = p.room; values = p.values; few = p.few };
+      timers = λ j lt. let x = h.timers j lt in record { due = x.due; period = x.period };
       sources = h.sources;
-      idle = idle;
+      clock = h.clock;
       scan = h.scan;
+      begun = h.begun;
       calm = h.calm;
     }
 
@@ -71,22 +120,26 @@ thread_back program m t x =
     record {
       published_is = x.published_is;
       queued = x.queued;
-      finished = λ is. (x.finished is, x.idle);
-      idle = λ _. x.event;
-      chain = λ task is. absurd (let clash : None ≡ Some task = sym x.idle ∙ is in cc);
+      finished = x.finished;
+      idle = x.idle;
+      chain = λ task is.
+          let c = x.chain task is in
+          record { known = c.known; own = c.own; event = c.event; is = c.is; served = c.served; unfinished = c.unfinished };
       outputs = x.outputs;
       first = x.first;
       totals = x.totals;
     }
 
-pub sound_of : (program : Program) (readings : Readings) (m : Model) → IsPlain program → IsPlainSound program readings m → IsSound program readings m
-sound_of program readings m plain h =
+pub sound_of : (program : Program) (readings : Readings) (m : Model) → HasSoundParts program readings m → IsSound program readings m
+sound_of program readings m h =
     record {
       shape = record { threads = h.threads_count; pipes = h.pipes_count; timers = h.timers_count; sources = h.sources_count; states = λ t lt. (h.threads t lt).size };
       threads = λ t lt. thread_back program m t (h.threads t lt);
-      pipes = λ q lt. absurd (let none : length program.pipes ≡ 0 = ap length plain.pipes in omega arith);
-      timers = λ j lt. absurd (let none : length program.timers ≡ 0 = ap length plain.timers in omega arith);
+      pipes = λ q lt. let p = h.pipes q lt in record { room = p.room; values = p.values; few = p.few };
+      timers = λ j lt. let x = h.timers j lt in record { due = x.due; period = x.period };
       sources = h.sources;
+      clock = h.clock;
       scan = h.scan;
+      begun = h.begun;
       calm = h.calm;
     }

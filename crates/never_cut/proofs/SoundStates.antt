@@ -1,60 +1,53 @@
--- Every state that a legal journal of a plain program reaches is sound, and its positions fit their bits.
-use Rattle.std.proofs.Common.{◌≡◌, ℕ, zero, suc, ◌+◌, ◌*◌, ◌^◌, ◌<◌, ◌≤◌, List, [], ◌∷◌, length, map, replicate, get_or, Option, Some, None, refl, sym, ap, ◌∙◌, arith, subst, inl, inr}
+-- Every state that a legal journal of an accepted program reaches is sound, and its positions fit their bits.
+use Rattle.std.proofs.Common.{◌≡◌, ℕ, zero, suc, ◌*◌, ◌<◌, ◌≤◌, true, false, List, [], ◌∷◌, length, map, get_or, Some, None, refl, sym, ap, arith, subst, inl, inr}
 use Rattle.std.proofs.lemmas.Bool.{cases_lt}
-use Rattle.std.proofs.lemmas.List.{get_or_past, length-map, length-replicate}
+use Rattle.std.proofs.lemmas.List.{get_or_past, get_or-map, length-map, length-replicate}
 use Rattle.ink_base.specs.declared.ids.ThreadId.{ThreadId}
 use Rattle.ink_base.specs.declared.entry.Entry.{Entry}
 use Rattle.ink_base.specs.declared.entry.Entry.TheVariants.{Push, Refuse, Skip, Tick, Scan, Look, Commit, Release}
 use Rattle.task_isa.specs.declared.program.Program.{Program}
 use Rattle.task_isa.specs.declared.program.ThreadDef.{ThreadDef}
+use Rattle.task_isa.specs.declared.program.PipeDef.{PipeDef}
 use Rattle.prog_check.specs.Accepted.{IsAccepted}
-use Rattle.prog_check.specs.Lookup.{thread_def, no_thread_def}
+use Rattle.prog_check.specs.Lookup.{thread_def, pipe_def, no_thread_def, no_timer_def}
 use Rattle.never_cut.specs.declared.model.Model.{Model}
 use Rattle.never_cut.specs.declared.thread_model.ThreadModel.{ThreadModel}
+use Rattle.never_cut.specs.declared.pipe_model.PipeModel.{PipeModel}
 use Rattle.never_cut.specs.declared.source_model.SourceModel.{SourceModel}
-use Rattle.never_cut.specs.State.{thread_of, source_of, no_thread, no_source, open_model, open_thread, open_source}
+use Rattle.never_cut.specs.State.{thread_of, source_of, no_thread, no_pipe, no_timer, no_source, open_model, open_thread, open_pipe, open_timer, open_source}
 use Rattle.never_cut.specs.Entries.{Readings, readings_of, Legal, effect}
 use Rattle.never_cut.specs.Journal.{after_from, IsLegalFrom}
 use Rattle.never_cut.specs.Stands.{published}
-use Rattle.never_cut.specs.Sound.{IsSound, accepted_into}
-use Rattle.never_cut.specs.Plain.{IsPlain}
-use Rattle.never_cut.specs.Picked.{AreIdle}
+use Rattle.never_cut.specs.Sound.{IsSound, IsSoundSource, accepted_into}
 use Rattle.never_cut.specs.Within.{AreShort}
 use Rattle.never_cut.proofs.Accepted.{accepted_bound, accepted_of}
-use Rattle.never_cut.proofs.SoundParts.{IsPlainSound, ThreadSound, plain_of, sound_of}
-use Rattle.never_cut.proofs.SoundSteps.{push_sound, refuse_sound, skip_sound, tick_sound, scan_sound, look_sound, release_sound}
+use Rattle.never_cut.proofs.SoundParts.{IsSoundAt, ThreadSound, IsSoundPipeAt, IsSoundTimerAt, HasSoundParts, parts_of, sound_of, taken_in}
+use Rattle.never_cut.proofs.SoundSources.{refuse_sound, skip_sound}
+use Rattle.never_cut.proofs.SoundScans.{tick_sound, scan_sound, look_sound}
+use Rattle.never_cut.proofs.SoundQueues.{push_sound, release_sound}
 use Rattle.never_cut.proofs.SoundCommits.{commit_sound}
 
-pub entry_sound : (program : Program) (readings : Readings) (m : Model) (e : Entry) → IsAccepted program → IsPlain program → AreShort readings → IsPlainSound program readings m →
-    Legal program readings m e → IsPlainSound program readings (effect program readings m e)
-entry_sound program readings m (Push i) accepted plain short h legal = push_sound program readings m i accepted short h legal
-entry_sound program readings m (Refuse i) accepted plain short h legal = refuse_sound program readings m i h legal
-entry_sound program readings m (Skip i) accepted plain short h legal = skip_sound program readings m i h legal
-entry_sound program readings m (Tick by) accepted plain short h legal = tick_sound program readings m by h
-entry_sound program readings m Scan accepted plain short h legal = scan_sound program readings m h legal
-entry_sound program readings m (Look t) accepted plain short h legal = look_sound program readings m t h
-entry_sound program readings m (Commit t) accepted plain short h legal = commit_sound program readings m t plain h legal
-entry_sound program readings m (Release t) accepted plain short h legal = release_sound program readings m t h legal
+entry_sound : (program : Program) (readings : Readings) (m : Model) (e : Entry) → IsAccepted program → AreShort readings → HasSoundParts program readings m →
+    Legal program readings m e → HasSoundParts program readings (effect program readings m e)
+entry_sound program readings m (Push i) accepted short h legal = push_sound program readings m i accepted short h legal
+entry_sound program readings m (Refuse i) accepted short h legal = refuse_sound program readings m i h legal
+entry_sound program readings m (Skip i) accepted short h legal = skip_sound program readings m i h legal
+entry_sound program readings m (Tick by) accepted short h legal = tick_sound program readings m by h legal
+entry_sound program readings m Scan accepted short h legal = scan_sound program readings m h legal
+entry_sound program readings m (Look t) accepted short h legal = look_sound program readings m t h
+entry_sound program readings m (Commit t) accepted short h legal = commit_sound program readings m t accepted h legal
+entry_sound program readings m (Release t) accepted short h legal = release_sound program readings m t h legal
 
--- a legal entry keeps a state sound, and its threads idle
-pub sound_step : (program : Program) (readings : Readings) (m : Model) (e : Entry) → IsAccepted program → IsPlain program → AreShort readings → IsSound program readings m → AreIdle m →
-    Legal program readings m e → IsSound program readings (effect program readings m e) × AreIdle (effect program readings m e)
-sound_step program readings m e accepted plain short sound idle legal =
-    let h = entry_sound program readings m e accepted plain short (plain_of program readings m sound idle) legal in
-    (sound_of program readings (effect program readings m e) plain h, h.idle)
+-- a legal entry keeps a state sound
+pub sound_step : (program : Program) (readings : Readings) (m : Model) (e : Entry) → IsAccepted program → AreShort readings → IsSound program readings m →
+    Legal program readings m e → IsSound program readings (effect program readings m e)
+sound_step program readings m e accepted short sound legal =
+    sound_of program readings (effect program readings m e) (entry_sound program readings m e accepted short (parts_of program readings m sound) legal)
 
 open_at : (defs : List ThreadDef) (t : ℕ) → t < length defs → get_or (map open_thread defs) t no_thread ≡ open_thread (get_or defs t no_thread_def)
 open_at [] t lt = absurd (omega arith)
 open_at (d ∷ defs) zero lt = refl
 open_at (d ∷ defs) (suc t) lt = open_at defs t (omega arith)
-
-open_idle_at : (defs : List ThreadDef) (t : ℕ) → (get_or (map open_thread defs) t no_thread).running ≡ None
-open_idle_at [] t = refl
-open_idle_at (d ∷ defs) zero = refl
-open_idle_at (d ∷ defs) (suc t) = open_idle_at defs t
-
-pub open_idle : (program : Program) → AreIdle (open_model program)
-open_idle program t = open_idle_at program.threads t
 
 open_source_at : (sources : List ThreadId) (i : ℕ) → get_or (map open_source sources) i no_source ≡ no_source
 open_source_at [] i = refl
@@ -69,48 +62,70 @@ none_accepted program t n =
 
 open_thread_sound : (program : Program) (t : ℕ) → t < length program.threads → ThreadSound program (open_model program) t
 open_thread_sound program t lt =
-    subst (λ (z : ThreadModel × ℕ). Rattle.never_cut.proofs.SoundParts.IsSoundAt program t z.0 z.1 0 0 0)
+    subst (λ (z : ThreadModel × ℕ). IsSoundAt program (taken_in (open_model program).pipes) t z.0 z.1 0 0 0)
     (sym (λ k. (open_at program.threads t lt k, none_accepted program t (length program.sources) k)))
     (record {
       published_is = refl;
       queued = λ k less. absurd (omega arith);
-      finished = λ is. absurd (let clash : Rattle.std.proofs.Common.false ≡ Rattle.std.proofs.Common.true = is in cc);
-      idle = refl;
-      event = refl;
+      finished = λ is. absurd (let clash : false ≡ true = is in cc);
+      idle = λ _. refl;
+      chain = λ task is. absurd (let clash : None ≡ Some task = is in cc);
       outputs = omega arith;
       first = omega arith;
       totals = omega arith;
       size = length-replicate {A = ℕ} (thread_def program t).state 0;
     })
 
+open_pipe_at : (defs : List PipeDef) (q : ℕ) → get_or (map open_pipe defs) q no_pipe ≡ no_pipe
+open_pipe_at [] q = refl
+open_pipe_at (d ∷ defs) zero = refl
+open_pipe_at (d ∷ defs) (suc q) = open_pipe_at defs q
+
+open_pipe_sound : (places : ℕ) → IsSoundPipeAt places no_pipe 0
+open_pipe_sound places = record { room = omega arith; values = λ k. omega arith; few = omega arith }
+
+open_timer_sound : (program : Program) (j : ℕ) → IsAccepted program → j < length program.timers → IsSoundTimerAt (get_or (map open_timer program.timers) j no_timer)
+open_timer_sound program j accepted lt =
+    let right = accepted.timers j lt in
+    subst IsSoundTimerAt (sym (get_or-map open_timer program.timers j no_timer_def no_timer lt)) (record {
+      due = λ due is. let early = right.due due is in omega arith;
+      period = let short = right.period in omega arith;
+    })
+
+open_source_sound : (program : Program) (readings : Readings) (i : ℕ) → IsSoundSource readings (open_model program) i
+open_source_sound program readings i =
+    let e = open_source_at program.sources i in record {
+      ordered = subst (λ (z : SourceModel). z.accepted ≤ z.next) (sym e) (omega arith);
+      within = subst (λ (z : SourceModel). z.next ≤ length (readings_of readings i)) (sym e) (omega arith);
+      refused = subst (λ (z : SourceModel). z.refused ≡ true → z.next < length (readings_of readings i)) (sym e)
+          (λ is. absurd (let clash : false ≡ true = is in cc));
+    }
+
 -- the state at the start is sound
-pub open_sound : (program : Program) (readings : Readings) → IsPlain program → IsSound program readings (open_model program)
-open_sound program readings plain =
-    sound_of program readings (open_model program) plain
+pub open_sound : (program : Program) (readings : Readings) → IsAccepted program → IsSound program readings (open_model program)
+open_sound program readings accepted =
+    sound_of program readings (open_model program)
     (record {
       threads_count = length-map program.threads open_thread;
-      pipes_count = length-map program.pipes Rattle.never_cut.specs.State.open_pipe;
-      timers_count = length-map program.timers Rattle.never_cut.specs.State.open_timer;
+      pipes_count = length-map program.pipes open_pipe;
+      timers_count = length-map program.timers open_timer;
       sources_count = length-map program.sources open_source;
       threads = λ t lt. open_thread_sound program t lt;
-      sources = λ i lt. let e = open_source_at program.sources i in record {
-        ordered = subst (λ (z : SourceModel). z.accepted ≤ z.next) (sym e) (omega arith);
-        within = subst (λ (z : SourceModel). z.next ≤ length (readings_of readings i)) (sym e) (omega arith);
-        refused = subst (λ (z : SourceModel). z.refused ≡ Rattle.std.proofs.Common.true → z.next < length (readings_of readings i)) (sym e)
-            (λ is. absurd (let clash : Rattle.std.proofs.Common.false ≡ Rattle.std.proofs.Common.true = is in cc));
-      };
-      idle = open_idle program;
+      pipes = λ q lt. subst (λ (p : PipeModel). IsSoundPipeAt (pipe_def program q).places p 0) (sym (open_pipe_at program.pipes q)) (open_pipe_sound (pipe_def program q).places);
+      timers = λ j lt. open_timer_sound program j accepted lt;
+      sources = λ i lt. open_source_sound program readings i;
+      clock = omega arith;
       scan = λ scan is. absurd (let clash : None ≡ Some scan = is in cc);
+      begun = λ scan is. absurd (let clash : None ≡ Some scan = is in cc);
       calm = λ scan is. absurd (let clash : None ≡ Some scan = is in cc);
     })
 
 -- the state after a legal journal is sound
-pub sound_after : (program : Program) (readings : Readings) (m : Model) (journal : List Entry) → IsAccepted program → IsPlain program → AreShort readings → IsSound program readings m → AreIdle m →
-    IsLegalFrom program readings m journal → IsSound program readings (after_from program readings m journal) × AreIdle (after_from program readings m journal)
-sound_after program readings m [] accepted plain short sound idle legal = (sound, idle)
-sound_after program readings m (e ∷ journal) accepted plain short sound idle legal =
-    let h = sound_step program readings m e accepted plain short sound idle legal.0 in
-    sound_after program readings (effect program readings m e) journal accepted plain short h.0 h.1 legal.1
+pub sound_after : (program : Program) (readings : Readings) (m : Model) (journal : List Entry) → IsAccepted program → AreShort readings → IsSound program readings m →
+    IsLegalFrom program readings m journal → IsSound program readings (after_from program readings m journal)
+sound_after program readings m [] accepted short sound legal = sound
+sound_after program readings m (e ∷ journal) accepted short sound legal =
+    sound_after program readings (effect program readings m e) journal accepted short (sound_step program readings m e accepted short sound legal.0) legal.1
 
 -- a queue publishes at most all readings of all sources
 pub published_bound : (program : Program) (readings : Readings) (m : Model) (t : ℕ) → IsAccepted program → AreShort readings → IsSound program readings m → t < length program.threads →

@@ -23,7 +23,7 @@ holds_by test at count j true here more is = let e : at ≡ j = cc in subst (λ 
 holds_by test at count j false here more is = more is
 
 -- what a search finds meets the test
-first_number_holds : (test : ℕ → Bool) (at count j : ℕ) → first_number test at count ≡ Some j → test j ≡ true
+pub first_number_holds : (test : ℕ → Bool) (at count j : ℕ) → first_number test at count ≡ Some j → test j ≡ true
 first_number_holds test at zero j is = absurd (cc)
 first_number_holds test at (suc count) j is = holds_by test at count j (test at) refl (first_number_holds test (at + 1) count j) is
 
@@ -41,7 +41,7 @@ found_timely : (m : Model) (time : ℕ) (found : Option ℕ) (e : Event) → tim
 found_timely m time None e early is_due is = absurd (cc)
 found_timely m time (Some j) e early is_due is = due_timely (timer_of m j).due j time e early (is_due j refl) is
 
-and_right : (a b : Bool) → (a && b) ≡ true → b ≡ true
+pub and_right : (a b : Bool) → (a && b) ≡ true → b ≡ true
 and_right true b is = is
 and_right false b is = absurd (cc)
 

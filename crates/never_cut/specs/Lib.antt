@@ -6,7 +6,6 @@ pub mod Entries
 pub mod Journal
 pub mod Stands
 pub mod Sound
-pub mod Plain
 pub mod Actors
 pub mod Steps
 pub mod Picked

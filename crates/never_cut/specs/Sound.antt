@@ -63,8 +63,8 @@ pub record IsSoundThread (program : Program) (m : Model) (t : ℕ) : Type 0 wher
 pub record IsSoundPipe (program : Program) (m : Model) (q : ℕ) : Type 0 where
   pub room : length (pipe_of m q).items ≤ (pipe_def program q).places
   pub values : (k : ℕ) → slice_index (pipe_of m q).items k < 2 ^ 32
-  -- a commit sends less than 2^12 items
-  pub few : (pipe_of m q).taken + length (pipe_of m q).items ≤ m.commits * 2 ^ 12
+  -- a commit takes one item at most
+  pub few : (pipe_of m q).taken ≤ m.commits
 
 pub record IsSoundTimer (m : Model) (j : ℕ) : Type 0 where
   pub due : ForSome (timer_of m j).due (λ due. due < 2 ^ 48)
@@ -82,6 +82,9 @@ pub record IsSound (program : Program) (readings : Readings) (m : Model) : Type 
   pub pipes : (q : ℕ) → q < length program.pipes → IsSoundPipe program m q
   pub timers : (j : ℕ) → j < length program.timers → IsSoundTimer m j
   pub sources : (i : ℕ) → i < length program.sources → IsSoundSource readings m i
+  pub clock : m.clock < 2 ^ 47
   pub scan : ForSome m.scan (λ scan. scan.time ≤ m.clock)
+  -- no chain began behind the scan
+  pub begun : ForSome m.scan (λ scan. (t : ℕ) → (thread_of m t).first ≤ scan.time)
   -- a scan begins with nothing finished, and a commit ends it
   pub calm : ForSome m.scan (λ scan. IsCalm program m)

@@ -1,0 +1,141 @@
+-- A thread stays sound over the end of a task of it, and over the commits of others.
+use Rattle.std.proofs.Common.{◌≡◌, ℕ, ◌+◌, ◌<◌, ◌≤◌, Bool, true, false, List, length, Option, Some, None, refl, sym, ap, ◌∙◌, arith, subst}
+use Rattle.std.specs.Prelude.{◌||◌, if◌then◌else◌}
+use Rattle.ink_base.specs.declared.ids.TaskId.{TaskId}
+use Rattle.ink_base.specs.declared.event.Event.{Event}
+use Rattle.ink_base.specs.declared.event.Origin.{Origin}
+use Rattle.ink_base.specs.declared.event.Origin.TheVariants as origins
+use Rattle.task_isa.specs.declared.program.Program.{Program}
+use Rattle.task_isa.specs.declared.outcome.Outcome.{Outcome}
+use Rattle.task_isa.specs.declared.outcome.Outcome.TheVariants as outcomes
+use Rattle.prog_check.specs.Lookup.{thread_def, pipe_def}
+use Rattle.never_cut.specs.declared.thread_model.ThreadModel.{ThreadModel}
+use Rattle.never_cut.specs.Commit.{is_of_queue, with_end, thread_after, expired_after}
+use Rattle.never_cut.proofs.TaskRuns.{IsRightOutcome}
+use Rattle.never_cut.proofs.SoundParts.{IsSoundAt, IsChainAt, IsServedBy}
+
+-- no more items were taken from the pipes that a thread reads
+abbrev pub SameTaken : Program → ℕ → (taken next : ℕ → ℕ) → Type 0
+SameTaken program t taken next = (q : ℕ) → q < length program.pipes → (pipe_def program q).reader.0 ≡ t → next q ≡ taken q
+
+served_kept : (program : Program) (taken next : ℕ → ℕ) (t : ℕ) (held : List Event) (o : Origin) (value : ℕ) → SameTaken program t taken next →
+    IsServedBy program taken t held (record { origin = o; value = value }) → IsServedBy program next t held (record { origin = o; value = value })
+served_kept program taken next t held (origins.Source source count) value same served = served
+served_kept program taken next t held (origins.Pipe pipe item) value same served = (served.0, served.1, served.2 ∙ sym (same pipe.0 served.0 served.1), served.3)
+served_kept program taken next t held (origins.Timer timer deadline) value same served = served
+
+-- a thread at another's commit
+pub other_at : (program : Program) (taken next : ℕ → ℕ) (t : ℕ) (x : ThreadModel) (accepted outs clock commits : ℕ) → SameTaken program t taken next →
+    IsSoundAt program taken t x accepted outs clock commits → IsSoundAt program next t x accepted outs clock (commits + 1)
+other_at program taken next t x accepted outs clock commits same h = record {
+  published_is = h.published_is;
+  queued = h.queued;
+  finished = h.finished;
+  idle = h.idle;
+  chain = λ task is.
+      let c = h.chain task is in
+      record {
+        known = c.known;
+        own = c.own;
+        event = c.event;
+        is = c.is;
+        served = served_kept program taken next t x.held c.event.origin c.event.value same c.served;
+        unfinished = c.unfinished;
+      };
+  outputs = h.outputs;
+  first = h.first;
+  totals = let old = h.totals in omega arith;
+  size = h.size;
+}
+
+-- where a service begins, the thread's first commit is at that time
+pub first_at : (program : Program) (taken : ℕ → ℕ) (t : ℕ) (x : ThreadModel) (accepted outs clock commits time : ℕ) (b : Bool) → time ≤ clock →
+    IsSoundAt program taken t x accepted outs clock commits → IsSoundAt program taken t (if b then x else record x { first = time }) accepted outs clock commits
+first_at program taken t x accepted outs clock commits time true le h = h
+first_at program taken t x accepted outs clock commits time false le h = record {
+  published_is = h.published_is;
+  queued = h.queued;
+  finished = h.finished;
+  idle = h.idle;
+  chain = λ task is.
+      let c = h.chain task is in
+      record { known = c.known; own = c.own; event = c.event; is = c.is; served = c.served; unfinished = c.unfinished };
+  outputs = h.outputs;
+  first = le;
+  totals = h.totals;
+  size = h.size;
+}
+
+pub first_keeps : {X : Type 0} (part : ThreadModel → X) (x : ThreadModel) (time : ℕ) (b : Bool) → part (record x { first = time }) ≡ part x →
+    part (if b then x else record x { first = time }) ≡ part x
+first_keeps part x time true same = refl
+first_keeps part x time false same = same
+
+-- an event of a queue that is served is held
+queue_held : (program : Program) (taken : ℕ → ℕ) (t : ℕ) (held : List Event) (o : Origin) (value : ℕ) → IsServedBy program taken t held (record { origin = o; value = value }) →
+    is_of_queue (record { origin = o; value = value }) ≡ true → 0 < length held
+queue_held program taken t held (origins.Source source count) value served is = served.0
+queue_held program taken t held (origins.Pipe pipe item) value served is = absurd (let clash : false ≡ true = is in cc)
+queue_held program taken t held (origins.Timer timer deadline) value served is = absurd (let clash : false ≡ true = is in cc)
+
+-- a thread whose service is over
+over_at : (program : Program) (taken next : ℕ → ℕ) (t : ℕ) (x : ThreadModel) (e : Event) (state : List ℕ) (served trapped expired accepted outs more clock commits : ℕ) →
+    IsSoundAt program taken t x accepted outs clock commits → IsServedBy program next t x.held e → x.finished ≡ false → length state ≡ (thread_def program t).state →
+    served + trapped + expired ≤ commits + 1 → more ≤ (thread_def program t).log →
+    IsSoundAt program next t (with_end e (record x { state = state; served = served; trapped = trapped; expired = expired })) accepted more clock (commits + 1)
+over_at program taken next t x e state served trapped expired accepted outs more clock commits h serves clear size totals fits = record {
+  published_is = h.published_is;
+  queued = h.queued;
+  finished = λ is. (queue_held program next t x.held e.origin e.value serves (ap (λ b. b || is_of_queue e) (sym clear) ∙ is), refl);
+  idle = λ _. refl;
+  chain = λ task is. absurd (let clash : None ≡ Some task = is in cc);
+  outputs = fits;
+  first = h.first;
+  totals = totals;
+  size = size;
+}
+
+-- a thread whose chain goes on
+next_at : (program : Program) (taken next : ℕ → ℕ) (t : ℕ) (x : ThreadModel) (e : Event) (task : TaskId) (state : List ℕ) (accepted outs more clock commits : ℕ) →
+    IsSoundAt program taken t x accepted outs clock commits → IsServedBy program next t x.held e → x.finished ≡ false → length state ≡ (thread_def program t).state →
+    IsRightOutcome program t (outcomes.Next task) → more ≤ (thread_def program t).log →
+    IsSoundAt program next t (thread_after e (outcomes.Next task) state x) accepted more clock (commits + 1)
+next_at program taken next t x e task state accepted outs more clock commits h serves clear size right fits = record {
+  published_is = h.published_is;
+  queued = h.queued;
+  finished = λ is. absurd (let clash : false ≡ true = sym clear ∙ is in cc);
+  idle = λ is. absurd (let clash : Some task ≡ None = is in cc);
+  chain = λ other is. chain_of other (ap (λ (o : Option TaskId). elim o [ None ↦ 0 | Some y ↦ y.0 ]) is);
+  outputs = fits;
+  first = h.first;
+  totals = let old = h.totals in omega arith;
+  size = size;
+}
+  where
+    chain_of : (other : TaskId) → task.0 ≡ other.0 → IsChainAt program next t (thread_after e (outcomes.Next task) state x) other.0
+    chain_of other same = record {
+      known = subst (λ n. n < length program.tasks) same right.0;
+      own = subst (λ n. (Rattle.prog_check.specs.Lookup.task_def program n).thread.0 ≡ t) same right.1;
+      event = e;
+      is = refl;
+      served = serves;
+      unfinished = clear;
+    }
+
+-- a thread after the end of a task of it
+pub after_at : (program : Program) (taken next : ℕ → ℕ) (t : ℕ) (x : ThreadModel) (e : Event) (outcome : Outcome) (state : List ℕ) (accepted outs more clock commits : ℕ) →
+    IsSoundAt program taken t x accepted outs clock commits → IsServedBy program next t x.held e → x.finished ≡ false → length state ≡ (thread_def program t).state →
+    IsRightOutcome program t outcome → more ≤ (thread_def program t).log → IsSoundAt program next t (thread_after e outcome state x) accepted more clock (commits + 1)
+after_at program taken next t x e (outcomes.Next task) state accepted outs more clock commits h serves clear size right fits =
+    next_at program taken next t x e task state accepted outs more clock commits h serves clear size right fits
+after_at program taken next t x e outcomes.Done state accepted outs more clock commits h serves clear size right fits =
+    over_at program taken next t x e state (x.served + 1) x.trapped x.expired accepted outs more clock commits h serves clear size (let old = h.totals in omega arith) fits
+after_at program taken next t x e (outcomes.Trap code) state accepted outs more clock commits h serves clear size right fits =
+    over_at program taken next t x e x.state x.served (x.trapped + 1) x.expired accepted outs more clock commits h serves clear h.size (let old = h.totals in omega arith) fits
+
+-- a thread whose chain expired
+pub expired_at : (program : Program) (taken : ℕ → ℕ) (t : ℕ) (x : ThreadModel) (e : Event) (accepted outs clock commits : ℕ) →
+    IsSoundAt program taken t x accepted outs clock commits → IsServedBy program taken t x.held e → x.finished ≡ false →
+    IsSoundAt program taken t (expired_after e x) accepted outs clock (commits + 1)
+expired_at program taken t x e accepted outs clock commits h serves clear =
+    over_at program taken taken t x e x.state x.served x.trapped (x.expired + 1) accepted outs outs clock commits h serves clear h.size (let old = h.totals in omega arith) h.outputs

@@ -1,0 +1,235 @@
+-- What a task of an accepted program leaves behind: it goes on with a task of its thread, ends its service or traps; it keeps the length of its state,
+-- sends and puts out no more than there is room for, and only to pipes that its thread writes, and sets timers of its thread.
+use Rattle.std.proofs.Common.{◌≡◌, ℕ, zero, suc, ◌+◌, ◌<◌, ◌≤◌, ◌==◌, ◌/◌, ◌%◌, ◌^◌, Bool, true, false, cond, List, [], ◌∷◌, ◌++◌, length, Option, Some, None, refl, sym, ap, ◌∙◌, arith, subst, inl, inr, length-append, length-set}
+use Rattle.std.specs.Prelude.{nat_lt, All, slice_index}
+use Rattle.std.specs.Option.{ForSome}
+use Rattle.std.proofs.lemmas.Bool.{ltb-true, cases_eq, cases_lt, ne_eqb}
+use Rattle.std.proofs.lemmas.Nat.{mod_below}
+use Rattle.std.proofs.lemmas.List.{get_or_past}
+use Rattle.std.proofs.lemmas.List.Sums.{sum_by-append}
+use Rattle.std.proofs.lemmas.List.Elements.{All-nil, All-cons, All-append}
+use Rattle.task_isa.specs.declared.act.Act.{Act}
+use Rattle.task_isa.specs.declared.act.Act.TheVariants.{Sets, Goes, Loads, Saves, Puts, Sends, Arms, Stops, Continues, Ends, Traps}
+use Rattle.task_isa.specs.declared.instr.Instr.{Instr}
+use Rattle.task_isa.specs.declared.instr.Instr.TheVariants.{Divu, Remu, Send, Arm, Stop, Next, Done}
+use Rattle.task_isa.specs.declared.outcome.Outcome.{Outcome}
+use Rattle.task_isa.specs.declared.outcome.Outcome.TheVariants as outcomes
+use Rattle.task_isa.specs.declared.outcome.TrapCode.TheVariants.{Divisor}
+use Rattle.task_isa.specs.declared.program.Program.{Program}
+use Rattle.task_isa.specs.declared.program.Task.{Task}
+use Rattle.task_isa.specs.declared.sent.Sent.{Sent}
+use Rattle.task_isa.specs.declared.timer_set.TimerSet.{TimerSet}
+use Rattle.task_isa.specs.declared.task_end.TaskEnd.{TaskEnd}
+use Rattle.task_isa.specs.declared.task_start.TaskStart.{TaskStart}
+use Rattle.task_isa.specs.Acts.{Given, Cpu, reg, act_of, divided}
+use Rattle.task_isa.specs.Meaning.{Config, Effects, Room, Stepped, GoesOn, IsOver, HasTrapped, RunEnd, Ended, Trapped, execute, instr_at, run, has_room, sent_to, task_end, task_of, run_of, given_of, room_of, first_config, no_effects}
+use Rattle.prog_check.specs.Lookup.{pipe_def, timer_def, task_def}
+use Rattle.prog_check.specs.Accepted.{IsRightInstr, IsAccepted}
+
+-- an item within its bits, for a pipe that the thread writes
+pub record IsRightItem (program : Program) (t : ℕ) (s : Sent) : Type 0 where
+  pub known : s.pipe.0 < length program.pipes
+  pub own : (pipe_def program s.pipe.0).writer.0 ≡ t
+  pub value : s.value < 2 ^ 32
+
+-- a setting within its bits, of a timer of the thread
+pub record IsRightSetting (program : Program) (t : ℕ) (s : TimerSet) : Type 0 where
+  pub known : s.timer.0 < length program.timers
+  pub own : (timer_def program s.timer.0).thread.0 ≡ t
+  pub due : ForSome s.due (λ due. due < 2 ^ 48)
+  pub period : s.period < 2 ^ 32
+
+-- the chain goes on with a task of the thread
+abbrev pub IsRightOutcome : Program → ℕ → Outcome → Type 0
+IsRightOutcome program t (outcomes.Next task) = (task.0 < length program.tasks) × ((task_def program task.0).thread.0 ≡ t)
+IsRightOutcome program t _ = Unit {0}
+
+-- the effects of a task of thread t fit the room that there was
+pub record IsFitting (program : Program) (t size : ℕ) (room : Room) (e : Effects) : Type 0 where
+  pub state : length e.state ≡ size
+  pub outs : length e.outs ≤ room.log
+  pub sent : (q : ℕ) → sent_to q e.sends ≤ slice_index room.pipes q
+  pub sends : All (IsRightItem program t) e.sends
+  pub timers : All (IsRightSetting program t) e.timers
+
+-- what one instruction does names pipes, timers and tasks of the thread
+abbrev IsRightAct : Program → ℕ → Act → Type 0
+IsRightAct program t (Sends q a v) = IsRightItem program t (record { pipe = record { 0 = q }; value = v })
+IsRightAct program t (Arms j delay period) = (j < length program.timers) × ((timer_def program j).thread.0 ≡ t) × (delay < 2 ^ 32) × (period < 2 ^ 32)
+IsRightAct program t (Stops j) = (j < length program.timers) × ((timer_def program j).thread.0 ≡ t)
+IsRightAct program t (Continues x) = IsRightOutcome program t (outcomes.Next (record { 0 = x }))
+IsRightAct program t _ = Unit {0}
+
+divided_right : (program : Program) (t n v a : ℕ) → IsRightAct program t (divided n (Sets a v))
+divided_right program t n v a = by_test (n == 0)
+  where
+    by_test : (b : Bool) → IsRightAct program t (cond b (Traps Divisor) (Sets a v))
+    by_test true = tt
+    by_test false = tt
+
+act_right : (program : Program) (task : Task) (i : Instr) (given : Given) (cpu : Cpu) → IsRightInstr program task i → IsRightAct program task.thread.0 (act_of i given cpu)
+unfolding act_of
+act_right program task (Divu a b c) given cpu right = divided_right program task.thread.0 (reg cpu c) (reg cpu b / reg cpu c) a
+act_right program task (Remu a b c) given cpu right = divided_right program task.thread.0 (reg cpu c) (reg cpu b % reg cpu c) a
+act_right program task (Send i a b) given cpu right = record { known = right.0; own = right.1; value = mod_below (reg cpu b) (2 ^ 32) (omega arith) }
+act_right program task (Arm i a b) given cpu right = (right.0, right.1, mod_below (reg cpu a) (2 ^ 32) (omega arith), mod_below (reg cpu b) (2 ^ 32) (omega arith))
+act_right program task (Stop i) given cpu right = right
+act_right program task (Next i) given cpu right = right
+act_right program task _ given cpu right = tt
+
+abbrev StepFits : Program → (t size : ℕ) → Room → Stepped → Type 0
+StepFits program t size room (GoesOn next) = IsFitting program t size room next.effects
+StepFits program t size room (IsOver outcome) = IsRightOutcome program t outcome
+StepFits program t size room (HasTrapped code) = Unit {0}
+
+where_true : (program : Program) (t size : ℕ) (room : Room) (b : Bool) (x y : Stepped) → (b ≡ true → StepFits program t size room x) → StepFits program t size room y →
+    StepFits program t size room (cond b x y)
+where_true program t size room true x y h k = h refl
+where_true program t size room false x y h k = k
+
+abbrev counted : Bool → ℕ
+counted b = cond b 1 0
+
+-- how many items a pipe has got after one more
+sent_to-more : (q : ℕ) (sends : List Sent) (s : Sent) → sent_to q (sends ++ s ∷ []) ≡ sent_to q sends + counted (s.pipe.0 == q)
+sent_to-more q sends s = rw (sum_by-append (λ (x : Sent). cond (x.pipe.0 == q) 1 0) sends (s ∷ [])) (omega arith)
+
+one_at_most : (b : Bool) → counted b ≤ 1
+one_at_most true = omega arith
+one_at_most false = omega arith
+
+one_more : (room : Room) (sends : List Sent) (s : Sent) → ((q : ℕ) → sent_to q sends ≤ slice_index room.pipes q) → sent_to s.pipe.0 sends < slice_index room.pipes s.pipe.0 →
+    (q : ℕ) → sent_to q (sends ++ s ∷ []) ≤ slice_index room.pipes q
+one_more room sends s h free q =
+    elim (cases_eq q s.pipe.0) [
+      | inl same ↦
+          let here : sent_to q sends < slice_index room.pipes q = subst (λ k. sent_to k sends < slice_index room.pipes k) (sym same) free in
+          omega (arith, sent_to-more q sends s, one_at_most (s.pipe.0 == q), here)
+      | inr apart ↦
+          let other : counted (s.pipe.0 == q) ≡ 0 = ap counted (ne_eqb s.pipe.0 q (λ e. apart (sym e))) in
+          omega (arith, sent_to-more q sends s, other, h q)
+    ]
+
+with_sent : (program : Program) (t size : ℕ) (room : Room) (e : Effects) (s : Sent) → IsFitting program t size room e → IsRightItem program t s → has_room room s.pipe.0 e.sends ≡ true →
+    IsFitting program t size room (record e { sends = e.sends ++ s ∷ [] })
+with_sent program t size room e s h right free = record {
+  state = h.state;
+  outs = h.outs;
+  sent = one_more room e.sends s h.sent (ltb-true _ _ free);
+  sends = All-append (IsRightItem program t) e.sends (s ∷ []) h.sends (All-cons (IsRightItem program t) s [] right (All-nil (IsRightItem program t)));
+  timers = h.timers;
+}
+
+with_setting : (program : Program) (t size : ℕ) (room : Room) (e : Effects) (s : TimerSet) → IsFitting program t size room e → IsRightSetting program t s →
+    IsFitting program t size room (record e { timers = e.timers ++ s ∷ [] })
+with_setting program t size room e s h right = record {
+  state = h.state;
+  outs = h.outs;
+  sent = h.sent;
+  sends = h.sends;
+  timers = All-append (IsRightSetting program t) e.timers (s ∷ []) h.timers (All-cons (IsRightSetting program t) s [] right (All-nil (IsRightSetting program t)));
+}
+
+armed_right : (program : Program) (t time j delay period : ℕ) → time < 2 ^ 47 → IsRightAct program t (Arms j delay period) →
+    IsRightSetting program t (record { timer = record { 0 = j }; due = Some (time + delay); period = period })
+armed_right program t time j delay period early right = record {
+  known = right.0;
+  own = right.1;
+  due = λ due is. let same : time + delay ≡ due = ap (λ (o : Option ℕ). elim o [ None ↦ 0 | Some n ↦ n ]) is in let few = right.2 in omega arith;
+  period = right.3;
+}
+
+stopped_right : (program : Program) (t j : ℕ) → IsRightAct program t (Stops j) → IsRightSetting program t (record { timer = record { 0 = j }; due = None; period = 0 })
+stopped_right program t j right = record {
+  known = right.0;
+  own = right.1;
+  due = λ due is. absurd (let clash : None ≡ Some due = is in cc);
+  period = omega arith;
+}
+
+step_fits : (program : Program) (t size : ℕ) (act : Act) (given : Given) (room : Room) (c : Config) → given.time < 2 ^ 47 → IsRightAct program t act →
+    IsFitting program t size room c.effects → StepFits program t size room (execute act given room c)
+step_fits program t size (Sets a v) given room c early right h = h
+step_fits program t size (Goes offset) given room c early right h = h
+step_fits program t size (Loads a n) given room c early right h = where_true program t size room (nat_lt n (length c.effects.state)) _ _ (λ _. h) tt
+step_fits program t size (Saves n v) given room c early right h =
+    where_true program t size room (nat_lt n (length c.effects.state)) _ _
+    (λ _. record { state = length-set c.effects.state n v ∙ h.state; outs = h.outs; sent = h.sent; sends = h.sends; timers = h.timers }) tt
+step_fits program t size (Puts v) given room c early right h =
+    where_true program t size room (nat_lt (length c.effects.outs) room.log) _ _
+    (λ e. record {
+      state = h.state;
+      outs = let lt : length c.effects.outs < room.log = ltb-true _ _ e in omega (arith, length-append c.effects.outs (v ∷ []));
+      sent = h.sent;
+      sends = h.sends;
+      timers = h.timers;
+    }) tt
+step_fits program t size (Sends q a v) given room c early right h =
+    where_true program t size room (has_room room q c.effects.sends) _ _ (λ free. with_sent program t size room c.effects _ h right free) h
+step_fits program t size (Arms j delay period) given room c early right h =
+    with_setting program t size room c.effects _ h (armed_right program t given.time j delay period early right)
+step_fits program t size (Stops j) given room c early right h = with_setting program t size room c.effects _ h (stopped_right program t j right)
+step_fits program t size (Continues x) given room c early right h = right
+step_fits program t size Ends given room c early right h = tt
+step_fits program t size (Traps code) given room c early right h = tt
+
+abbrev RunFits : Program → (t size : ℕ) → Room → RunEnd → Type 0
+RunFits program t size room (Ended outcome e left) = IsRightOutcome program t outcome × IsFitting program t size room e
+RunFits program t size room (Trapped code left) = Unit {0}
+
+run_fits : (program : Program) (task : Task) (given : Given) (room : Room) (left size : ℕ) (c : Config) → ((n : ℕ) → IsRightInstr program task (instr_at task.code n)) →
+    given.time < 2 ^ 47 → IsFitting program task.thread.0 size room c.effects → RunFits program task.thread.0 size room (run task.code given room left c)
+run_fits program task given room zero size c right early h = tt
+run_fits program task given room (suc left) size c right early h =
+    let i : Instr = instr_at task.code c.cpu.at in
+    by_step (execute (act_of i given c.cpu) given room c)
+    (step_fits program task.thread.0 size (act_of i given c.cpu) given room c early (act_right program task i given c.cpu (right c.cpu.at)) h)
+    (λ next k. run_fits program task given room left size next right early k)
+  where
+    by_step : (step : Stepped) → StepFits program task.thread.0 size room step →
+        ((next : Config) → IsFitting program task.thread.0 size room next.effects → RunFits program task.thread.0 size room (run task.code given room left next)) →
+        RunFits program task.thread.0 size room (elim step [ GoesOn next ↦ run task.code given room left next | IsOver outcome ↦ Ended outcome c.effects left | HasTrapped trap ↦ Trapped trap left ])
+    by_step (GoesOn next) k more = more next k
+    by_step (IsOver outcome) k more = (k, h)
+    by_step (HasTrapped trap) k more = tt
+
+-- what a run that has ended leaves behind
+abbrev pub effects_of : TaskEnd → Effects
+effects_of end = record { state = end.state; sends = end.sends; outs = end.outs; timers = end.timers }
+
+-- the end of a task of thread t: how it goes on, and its effects
+pub record IsFittingEnd (program : Program) (t size : ℕ) (room : Room) (end : TaskEnd) : Type 0 where
+  pub outcome : IsRightOutcome program t end.outcome
+  pub effects : IsFitting program t size room (effects_of end)
+
+no_effects_fit : (program : Program) (t size : ℕ) (room : Room) (state : List ℕ) → length state ≡ size → IsFitting program t size room (no_effects state)
+no_effects_fit program t size room state same = record {
+  state = same;
+  outs = omega arith;
+  sent = λ q. omega arith;
+  sends = All-nil (IsRightItem program t);
+  timers = All-nil (IsRightSetting program t);
+}
+
+end_fits : (program : Program) (t size limit : ℕ) (room : Room) (state : List ℕ) (r : RunEnd) → length state ≡ size → RunFits program t size room r →
+    IsFittingEnd program t size room (task_end limit state r)
+end_fits program t size limit room state (Ended outcome e left) same h = record { outcome = h.0; effects = h.1 }
+end_fits program t size limit room state (Trapped code left) same h = record { outcome = tt; effects = no_effects_fit program t size room state same }
+
+-- each instruction of a task is right, also those beyond the code
+code_right : (program : Program) (x n : ℕ) → IsAccepted program → x < length program.tasks → IsRightInstr program (task_def program x) (instr_at (task_def program x).code n)
+code_right program x n accepted known =
+    elim (cases_lt n (length (task_def program x).code)) [
+      | inl less ↦ (accepted.tasks x known).instrs n less
+      | inr past ↦ subst (λ (i : Instr). IsRightInstr program (task_def program x) i) (sym (get_or_past (task_def program x).code n Done past)) tt
+    ]
+
+-- the end of task x from a start
+pub task_fits : (program : Program) (x t size : ℕ) (start : TaskStart) → IsAccepted program → x < length program.tasks → (task_def program x).thread.0 ≡ t → start.time < 2 ^ 47 →
+    length start.state ≡ size → IsFittingEnd program t size (room_of start) (task_of (task_def program x).code (task_def program x).limit start)
+task_fits program x t size start accepted known own early same =
+    let task : Task = task_def program x in
+    subst (λ u. IsFittingEnd program u size (room_of start) (task_of task.code task.limit start)) own
+    (end_fits program task.thread.0 size task.limit (room_of start) start.state (run_of task.code task.limit (given_of start) (room_of start) start.state) same
+    (run_fits program task (given_of start) (room_of start) task.limit size (first_config start.state) (λ n. code_right program x n accepted known) early
+    (no_effects_fit program task.thread.0 size (room_of start) start.state same)))
