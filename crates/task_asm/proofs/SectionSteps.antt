@@ -10,12 +10,12 @@ use Rattle.ink_base.proofs.Failing.{Answers-step}
 use Rattle.task_asm.specs.Task.{line_in}
 use Rattle.task_asm.specs.Section.{is_header, header_in, section_in}
 
-at_header : (count : ℕ) (d : Draft) (line : Line) (rest : List Line) → is_header line.words ≡ true
+pub at_header : (count : ℕ) (d : Draft) (line : Line) (rest : List Line) → is_header line.words ≡ true
     → section_in count d (line ∷ rest) ≡ (at_line line.number (header_in d line.words) >> (λ e. Ok (d, line ∷ rest)))
 unfolding section_in
 at_header count d line rest h = rw h refl
 
-at_other : (count : ℕ) (d : Draft) (line : Line) (rest : List Line) → is_header line.words ≡ false
+pub at_other : (count : ℕ) (d : Draft) (line : Line) (rest : List Line) → is_header line.words ≡ false
     → section_in count d (line ∷ rest) ≡ (at_line line.number (line_in d line.number line.words) >> (λ next. section_in count next rest))
 unfolding section_in
 at_other count d line rest h = rw h refl

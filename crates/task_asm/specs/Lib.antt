@@ -11,3 +11,5 @@ pub mod Targets
 pub mod Section
 pub mod Print
 pub mod Marks
+pub mod Typed
+pub mod Reread

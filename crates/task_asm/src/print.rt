@@ -1,8 +1,13 @@
 //! Prints tasks and whole programs.
 
 ghost use Rattle.std.specs.Prelude.{◌≡◌, ◌++◌, ◌<◌, length, flat_map, OnOk, IfOk};
+ghost use Rattle.std.specs.List.{All};
+ghost use Rattle.prog_check.specs.Lookup.{instr_at};
+ghost use Rattle.task_isa.specs.Code.{IsInstr};
 ghost use Rattle.task_asm.specs.Marks.{AreMarks};
 ghost use Rattle.task_asm.specs.Print.{label_text, line_text, each_below, task_line, task_text, print_of};
+ghost use Rattle.task_asm.specs.Reread.{ReadsBack};
+ghost use Rattle.task_asm.specs.Typed.{IsNamed, IsTypedTask, IsTyped};
 
 use crate::marks::label_marks;
 use crate::numbers::{put_count, put_name};
@@ -33,7 +38,8 @@ fn put_line(
 ) -> Result<(), NoMemory>
     requires offset { offset < length task.now.code }
     requires marks { AreMarks marks.now (length task.now.code) task.now.code }
-    ensures { OnOk result (out.new.items ≡ out.old.items ++ line_text program.now task.now offset) }
+    ensures text { OnOk result (out.new.items ≡ out.old.items ++ line_text program.now task.now offset) }
+    ensures fits { OnOk result (IsInstr (instr_at task.now offset)) }
 {
     put_label(out, marks[offset], offset)?;
     put_instr(out, program, task.code.as_slice()[offset])?;
@@ -47,7 +53,8 @@ fn put_code(
     program: &Program,
     task: &Task,
 ) -> Result<(), NoMemory>
-    ensures { OnOk result (out.new.items ≡ out.old.items ++ each_below (length task.now.code) (line_text program.now task.now)) }
+    ensures text { OnOk result (out.new.items ≡ out.old.items ++ each_below (length task.now.code) (line_text program.now task.now)) }
+    ensures fits { OnOk result (All IsInstr task.now.code) }
 {
     let marks = label_marks(alloc, task.code.as_slice())?;
     for offset in 0..task.code.len() {
@@ -57,7 +64,8 @@ fn put_code(
 }
 
 fn put_task_line(out: &mut Vec<u8>, program: &Program, task: &Task) -> Result<(), NoMemory>
-    ensures { OnOk result (out.new.items ≡ out.old.items ++ task_line program.now task.now) }
+    ensures text { OnOk result (out.new.items ≡ out.old.items ++ task_line program.now task.now) }
+    ensures named { OnOk result (IsNamed task.now.name) }
 {
     put_name(out, b"task ", task.name.as_bytes())?;
     put_name(out, b" thread ", thread_name(program, task.thread))?;
@@ -72,7 +80,8 @@ fn put_task(
     program: &Program,
     task: &Task,
 ) -> Result<(), NoMemory>
-    ensures { OnOk result (out.new.items ≡ out.old.items ++ task_text program.now task.now) }
+    ensures text { OnOk result (out.new.items ≡ out.old.items ++ task_text program.now task.now) }
+    ensures typed { OnOk result (IsTypedTask task.now) }
 {
     put_task_line(out, program, task)?;
     put_code(out, alloc, program, task)?;
@@ -86,7 +95,8 @@ fn put_tasks(
     program: &Program,
     tasks: &[Task],
 ) -> Result<(), NoMemory>
-    ensures { OnOk result (out.new.items ≡ out.old.items ++ flat_map (task_text program.now) tasks.now) }
+    ensures text { OnOk result (out.new.items ≡ out.old.items ++ flat_map (task_text program.now) tasks.now) }
+    ensures typed { OnOk result (All IsTypedTask tasks.now) }
 {
     for task in tasks {
         put_task(out, alloc, program, task)?;
@@ -95,7 +105,8 @@ fn put_tasks(
 }
 
 fn put_program(out: &mut Vec<u8>, alloc: Global, program: &Program) -> Result<(), NoMemory>
-    ensures { OnOk result (out.new.items ≡ out.old.items ++ print_of program.now) }
+    ensures text { OnOk result (out.new.items ≡ out.old.items ++ print_of program.now) }
+    ensures typed { OnOk result (IsTyped program.now) }
 {
     out.extend_from_slice(b"[program]\n")?;
     put_threads(out, program.threads.as_slice())?;
@@ -106,9 +117,11 @@ fn put_program(out: &mut Vec<u8>, alloc: Global, program: &Program) -> Result<()
 }
 
 /// The canonical text of a program: the section `[program]`, with its parts in the order of their numbers, one space between words,
-/// numbers without leading zeros, and the label `Lo` before the instruction of offset `o` where a jump goes to it.
+/// numbers without leading zeros, and the label `Lo` before the instruction of offset `o` where a jump goes to it. With the header
+/// `[sensors]` behind it, it is read as this program again.
 pub fn print_program(alloc: Global, program: &Accepted) -> Result<Vec<u8>, NoMemory>
-    ensures { IfOk result (λ text. text.items ≡ print_of program.now) }
+    ensures text { IfOk result (λ text. text.items ≡ print_of program.now) }
+    ensures back { IfOk result (λ text. ReadsBack text.items program.now) }
 {
     let mut out = Vec::new(alloc);
     put_program(&mut out, alloc, program.program())?;

@@ -2,6 +2,7 @@
 
 ghost use Rattle.std.specs.Prelude.{◌≡◌, ◌++◌, OnOk};
 ghost use Rattle.prog_check.specs.Lookup.{pipe_def, timer_def, task_def};
+ghost use Rattle.task_isa.specs.Code.{IsInstr};
 ghost use Rattle.task_asm.specs.Print.{register_text, li_text, one_text, two_text, three_text, jump_text, device_text, instr_text};
 
 use crate::numbers::{put_count, put_name};
@@ -89,10 +90,11 @@ fn put_device(out: &mut Vec<u8>, word: &[u8], name: &[u8], a: Reg, b: Reg) -> Re
     put_register(out, b)
 }
 
-/// Appends an instruction: its word and its operands.
+/// Appends an instruction: its word and its operands, which fit their bits as their types say.
 #[tactic(auto, unfolding(crate::specs::Print::instr_text))]
 pub fn put_instr(out: &mut Vec<u8>, program: &Program, instr: Instr) -> Result<(), NoMemory>
-    ensures { OnOk result (out.new.items ≡ out.old.items ++ instr_text program.now instr) }
+    ensures text { OnOk result (out.new.items ≡ out.old.items ++ instr_text program.now instr) }
+    ensures fits { IsInstr instr }
 {
     match instr {
         Instr::Li { a, i } => put_li(out, a, i),

@@ -1,7 +1,9 @@
 //! Prints the declarations of a program.
 
 ghost use Rattle.std.specs.Prelude.{◌≡◌, ◌++◌, flat_map, OnOk};
+ghost use Rattle.std.specs.List.{All};
 ghost use Rattle.task_asm.specs.Print.{thread_name, expires_text, sizes_text, thread_text, source_text, ends_text, pipe_text, start_text, timer_text};
+ghost use Rattle.task_asm.specs.Typed.{IsNamed};
 
 use crate::numbers::{put_count, put_name};
 use ink_base::{NoMemory, ThreadId};
@@ -35,7 +37,8 @@ fn put_sizes(out: &mut Vec<u8>, thread: &ThreadDef) -> Result<(), NoMemory>
 }
 
 fn put_thread(out: &mut Vec<u8>, thread: &ThreadDef) -> Result<(), NoMemory>
-    ensures { OnOk result (out.new.items ≡ out.old.items ++ thread_text thread.now) }
+    ensures text { OnOk result (out.new.items ≡ out.old.items ++ thread_text thread.now) }
+    ensures named { OnOk result (IsNamed thread.now.name) }
 {
     put_name(out, b"thread ", thread.name.as_bytes())?;
     put_count(out, b" priority ", u64::from(thread.priority))?;
@@ -47,7 +50,8 @@ fn put_thread(out: &mut Vec<u8>, thread: &ThreadDef) -> Result<(), NoMemory>
 
 /// Appends a line for each thread.
 pub fn put_threads(out: &mut Vec<u8>, threads: &[ThreadDef]) -> Result<(), NoMemory>
-    ensures { OnOk result (out.new.items ≡ out.old.items ++ flat_map thread_text threads.now) }
+    ensures text { OnOk result (out.new.items ≡ out.old.items ++ flat_map thread_text threads.now) }
+    ensures named { OnOk result (All (λ t. IsNamed t.name) threads.now) }
 {
     for thread in threads {
         put_thread(out, thread)?;
@@ -85,7 +89,8 @@ fn put_ends(out: &mut Vec<u8>, program: &Program, pipe: &PipeDef) -> Result<(), 
 }
 
 fn put_pipe(out: &mut Vec<u8>, program: &Program, pipe: &PipeDef) -> Result<(), NoMemory>
-    ensures { OnOk result (out.new.items ≡ out.old.items ++ pipe_text program.now pipe.now) }
+    ensures text { OnOk result (out.new.items ≡ out.old.items ++ pipe_text program.now pipe.now) }
+    ensures named { OnOk result (IsNamed pipe.now.name) }
 {
     put_name(out, b"pipe ", pipe.name.as_bytes())?;
     put_count(out, b" ", u64::from(pipe.places))?;
@@ -96,7 +101,8 @@ fn put_pipe(out: &mut Vec<u8>, program: &Program, pipe: &PipeDef) -> Result<(), 
 
 /// Appends a line for each pipe.
 pub fn put_pipes(out: &mut Vec<u8>, program: &Program, pipes: &[PipeDef]) -> Result<(), NoMemory>
-    ensures { OnOk result (out.new.items ≡ out.old.items ++ flat_map (pipe_text program.now) pipes.now) }
+    ensures text { OnOk result (out.new.items ≡ out.old.items ++ flat_map (pipe_text program.now) pipes.now) }
+    ensures named { OnOk result (All (λ p. IsNamed p.name) pipes.now) }
 {
     for pipe in pipes {
         put_pipe(out, program, pipe)?;
@@ -120,7 +126,8 @@ fn put_start(out: &mut Vec<u8>, due: Option<u32>, period: u32) -> Result<(), NoM
 }
 
 fn put_timer(out: &mut Vec<u8>, program: &Program, timer: &TimerDef) -> Result<(), NoMemory>
-    ensures { OnOk result (out.new.items ≡ out.old.items ++ timer_text program.now timer.now) }
+    ensures text { OnOk result (out.new.items ≡ out.old.items ++ timer_text program.now timer.now) }
+    ensures named { OnOk result (IsNamed timer.now.name) }
 {
     put_name(out, b"timer ", timer.name.as_bytes())?;
     put_name(out, b" thread ", thread_name(program, timer.thread))?;
@@ -131,7 +138,8 @@ fn put_timer(out: &mut Vec<u8>, program: &Program, timer: &TimerDef) -> Result<(
 
 /// Appends a line for each timer.
 pub fn put_timers(out: &mut Vec<u8>, program: &Program, timers: &[TimerDef]) -> Result<(), NoMemory>
-    ensures { OnOk result (out.new.items ≡ out.old.items ++ flat_map (timer_text program.now) timers.now) }
+    ensures text { OnOk result (out.new.items ≡ out.old.items ++ flat_map (timer_text program.now) timers.now) }
+    ensures named { OnOk result (All (λ t. IsNamed t.name) timers.now) }
 {
     for timer in timers {
         put_timer(out, program, timer)?;

@@ -540,3 +540,69 @@ fn another_text_of_the_program_is_printed_canonically(rt: HostRuntime) -> Result
     assert_eq!(rt; bytes.as_slice(), PRINTED.as_bytes());
     Ok(())
 }
+
+// Each form of a line, and each instruction, as it is printed.
+const EVERY: &str = "[program]
+thread a priority 255 queue 32 state 256 log 4096 expires 2147483647
+thread b priority 0 queue 2 state 0 log 1
+source b
+source a
+pipe p 1 from a to b
+pipe q 64 from b to a
+timer t thread a off
+timer u thread a due 0 period 2147483647
+task x thread a limit 4096
+L0:
+li r0 0
+mov r1 r2
+add r3 r4 r5
+sub r6 r7 r8
+mul r9 r10 r11
+and r12 r13 r14
+or r15 r0 r1
+xor r2 r3 r4
+shl r5 r6 r7
+shr r8 r9 r10
+L10:
+divu r11 r12 r13
+remu r14 r15 r0
+ltu r1 r2 r3
+eq r4 r5 r6
+jz r7 L10
+jnz r8 L28
+ev r9
+kind r10
+num r11
+now r12
+ld r13 r14
+st r15 r0
+out r1
+send p r2 r3
+arm t r4 r5
+stop u
+jmp L0
+next z
+L28:
+done
+end
+task y thread b limit 1
+send q r6 r7
+done
+end
+task z thread a limit 2
+next x
+end
+";
+
+#[test]
+fn every_form_is_printed_and_read_back(rt: HostRuntime) -> Result<(), Fail> {
+    let text = format!(in rt.alloc(); "{EVERY}[sensors]\n")?;
+    let (program, lines, next) = read(&rt, text.as_str()).ok().ok_or("a program")?;
+    assert_eq!(rt; next, 176);
+    assert_eq!(rt; lines.threads.as_slice(), [2, 3].as_slice());
+    assert_eq!(rt; lines.tasks.as_slice(), [10, 44, 48].as_slice());
+    let program = check(program, &lines).ok().ok_or("an accepted program")?;
+    let bytes = print_program(rt.alloc(), &program).ok().ok_or("memory")?;
+    assert_eq!(rt; bytes.as_slice(), EVERY.as_bytes());
+    Ok(())
+}
