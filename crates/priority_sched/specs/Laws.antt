@@ -1,5 +1,5 @@
 -- What a scan keeps, and what it has found at its end.
-use Rattle.std.specs.Prelude.{◌≡◌, ℕ, ◌<◌, length, Some, None}
+use Rattle.std.specs.Prelude.{◌≡◌, ℕ, ◌+◌, ◌^◌, ◌<◌, length, Some, None}
 use Rattle.task_isa.specs.declared.program.Program.{Program}
 use Rattle.fram_words.specs.Places.{Memory, answer}
 use Rattle.never_cut.specs.declared.model.Model.{Model}
@@ -8,29 +8,30 @@ use Rattle.never_cut.specs.Pending.{pending}
 use Rattle.never_cut.specs.Entries.{Readings, IsCalm, IsPassed}
 use Rattle.never_cut.specs.Actors.{SamePrivate, Follows}
 use Rattle.never_cut.specs.Steps.{Background}
-use Rattle.never_cut.specs.Picked.{AreIdle, IsPicked}
+use Rattle.never_cut.specs.Picked.{IsPicked}
 use Rattle.priority_sched.specs.declared.machine.ScanMachine.{ScanMachine}
 use Rattle.priority_sched.specs.declared.scanned.Scanned.{Scanned}
 use Rattle.priority_sched.specs.declared.scanned.Scanned.TheVariants.{Pick, Quiet}
 use Rattle.priority_sched.specs.Scan.{scan_begun, scan_result, scan_wants, IsScan, IsScanWord}
 use Rattle.priority_sched.specs.Knows.{ScanHolds, ScanStep}
 
--- a scan may begin where no finished event is left and no chain runs
+-- a scan may begin where no finished event is left
 abbrev pub ScanBegins : Type 0
 ScanBegins =
     (program : Program) (readings : Readings) (words : Memory) (m : Model) →
-    Background program readings words m → IsCalm program m → AreIdle m → ScanHolds program words m scan_begun
+    Background program readings words m → IsCalm program m → ScanHolds program words m scan_begun
 
 -- the registers, and the word that the wanted access finds, lie in their ranges
 pub record IsInRange (program : Program) (words : Memory) (scan : ScanMachine) : Type 0 where
   pub row : IsScan program scan
   pub word : IsScanWord program scan.at (answer words (scan_wants program scan.thread.0 scan.at))
 
--- each access may be made, and is kept
+-- each access may be made, and is kept, while the numbers of items have 32 bits: a commit takes one item at most
 abbrev pub ScanKeeps : Type 0
 ScanKeeps =
     (program : Program) (readings : Readings) (words : Memory) (m : Model) (scan : ScanMachine) →
-    Background program readings words m → ScanHolds program words m scan → IsInRange program words scan × ScanStep program readings words m scan
+    Background program readings words m → m.commits + 1 < 2 ^ 32 → ScanHolds program words m scan →
+    IsInRange program words scan × ScanStep program readings words m scan
 
 -- what is known outlasts the accesses of sources and clock
 abbrev pub ScanDrifts : Type 0

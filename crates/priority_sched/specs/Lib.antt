@@ -1,4 +1,5 @@
 pub mod Order
+pub mod Picks
 pub mod Scan
 pub mod Knows
 pub mod Laws

@@ -2,10 +2,11 @@
 
 ghost use Rattle.priority_sched.specs.Laws.{ScanBegins, ScanKeeps, ScanDrifts, ScanEnds};
 
-/// A scan of any accepted program that the board runs, from any words that stand for a state without finished events and chains, and
-/// with any accesses of sources and clock between its own. Each access is within its range and allowed, the entry that it makes is
-/// legal, and the words stand for the state after it. At the end the pick is the pending event of the thread of the greatest priority
-/// that has one, or no thread has one.
+/// A scan of any accepted program, from any words that stand for a state without finished events, and with any accesses of sources and
+/// clock between its own. While fewer than 2^32 - 1 commits are made, each access is within its range and allowed, the entry that it
+/// makes is legal, and the words stand for the state after it. At the end the pick is the pending event of the thread of the greatest
+/// priority that has one, with the words that tell how it is consumed: a running chain's event, a queue's, a pipe's item or a timer's.
+/// Or no thread has one.
 pub fn scan_picks()
     ensures begins { ScanBegins }
     ensures keeps { ScanKeeps }

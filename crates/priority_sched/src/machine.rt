@@ -4,6 +4,7 @@ ghost use Rattle.ink_layout.specs.Addresses.{at_layout};
 ghost use Rattle.priority_sched.specs.Scan.{scan_begun, scan_wants, scan_takes, scan_point, scan_result, scan_slot, IsScan, IsScanWord};
 
 use crate::origin::event_at;
+use crate::places::{item_at, taken_at, timer_at, writer_of, written_at};
 use crate::scan_at::ScanAt;
 use crate::scanned::Scanned;
 use fram_words::Access;
@@ -58,6 +59,14 @@ impl ScanMachine {
             ScanAt::Value { chain, .. } => header_at(plan, thread, chain.commit_word, 4),
             ScanAt::First { chain, .. } => header_at(plan, thread, chain.commit_word, 2),
             ScanAt::Slot { position, .. } => slot_at(plan, thread, position),
+            ScanAt::Taken { idle, pipe } => taken_at(plan, thread, idle.commit_word, pipe),
+            ScanAt::Writer { waiting } => commit_at(plan, writer_of(plan, waiting.pipe)),
+            ScanAt::Written {
+                waiting,
+                commit_word,
+            } => written_at(plan, waiting.pipe, commit_word),
+            ScanAt::Item { waiting } => item_at(plan, waiting.pipe, waiting.taken),
+            ScanAt::Timer { idle, timer } => timer_at(plan, thread, idle.commit_word, timer),
             ScanAt::Clock | ScanAt::Picked { .. } | ScanAt::Quiet => plan.layout.clock,
         })
     }

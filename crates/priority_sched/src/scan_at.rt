@@ -1,7 +1,8 @@
 //! The rows of the access table of a scan.
 
 use crate::chain::Chain;
-use ink_base::{Event, Origin, TaskId};
+use crate::idle::{Idle, Waiting};
+use ink_base::{Event, Origin, PipeId, TaskId, TimerId};
 use ink_layout::Pick;
 
 /// The access that comes next for the thread at hand, with what was found for it.
@@ -38,6 +39,29 @@ pub enum ScanAt {
     Slot {
         commit_word: u64,
         position: u32,
+    },
+    /// Loads how many items the idle thread has taken from a pipe that it reads.
+    Taken {
+        idle: Idle,
+        pipe: PipeId,
+    },
+    /// Loads the commit word of the pipe's writer.
+    Writer {
+        waiting: Waiting,
+    },
+    /// Loads how many items were written, from the copy that the writer's commit word names.
+    Written {
+        waiting: Waiting,
+        commit_word: u64,
+    },
+    /// Loads the first item that isn't taken.
+    Item {
+        waiting: Waiting,
+    },
+    /// Loads the word of a timer of the idle thread, which no pipe gives an item.
+    Timer {
+        idle: Idle,
+        timer: TimerId,
     },
     /// Nothing: this event was picked.
     Picked {
