@@ -1,30 +1,50 @@
 -- Each access before the commit keeps what is known while a pick is served.
-use Rattle.std.proofs.Common.{◌≡◌, ℕ, ◌+◌, ◌-◌, ◌/◌, ◌<◌, ◌≤◌, cond, List, length, get_or, arith, refl, ap, ◌∙◌, sym, inl, inr, subst}
+use Rattle.std.proofs.Common.{◌≡◌, ℕ, ◌/◌, ◌^◌, ◌<◌, ◌≤◌, cond, List, length, get_or, arith, refl, ap, ◌∙◌, sym, inl, inr, subst}
 use Rattle.std.proofs.Math.Path.{fun_ext}
-use Rattle.std.proofs.lemmas.Bool.{cases_Bool, cases_eq, ltb-true, ltb-false}
+use Rattle.std.proofs.lemmas.Bool.{cases_eq}
 use Rattle.std.proofs.lemmas.Nat.Bits.{bit_at-lt}
-use Rattle.std.specs.Prelude.{nat_lt}
 use Rattle.std.specs.Int.{bit_at}
-use Rattle.fram_words.specs.Places.{Commit, Log, Memory, store, perform, answer}
+use Rattle.fram_words.specs.Places.{Commit, Log, Ring, Memory, store, perform, answer}
 use Rattle.thread_state.specs.Pages.{place_in, working, working_mask, no_writes, Buffer, Copying, Loading, Storing, Buffered, IsCopied, IsUnderWay, put, is_dirty, put_access, copy_access, after_copy}
 use Rattle.thread_state.proofs.Pages.{copy_only, dirty_put_only, copy_working, copy_goes_on, put_working, is_dirty-true, is_dirty-false, no_writes_words}
 use Rattle.task_isa.specs.declared.program.Program.{Program}
-use Rattle.task_isa.specs.Acts.{Cpu}
-use Rattle.task_isa.specs.Meaning.{run}
-use Rattle.prog_check.specs.Lookup.{thread_def, task_def}
+use Rattle.task_isa.specs.declared.sent.Sent.{Sent}
+use Rattle.prog_check.specs.Lookup.{thread_def}
 use Rattle.ink_layout.specs.declared.pick.Pick.{Pick}
 use Rattle.never_cut.specs.declared.model.Model.{Model}
-use Rattle.never_cut.specs.Stands.{Saved, saved, thread_words, origin_word, log_of, AreLogged, StandsPrivate, StandsThread}
-use Rattle.never_cut.specs.Sound.{HasShape}
+use Rattle.never_cut.specs.Stands.{Saved, saved, thread_words, log_of, AreLogged, StandsThread}
+use Rattle.never_cut.specs.Entries.{Readings}
+use Rattle.never_cut.specs.Sound.{IsSound}
 use Rattle.never_cut.specs.Picked.{IsPicked}
 use Rattle.task_run.specs.declared.ending.Ending.{Ending}
-use Rattle.task_run.specs.declared.ending.Ending.TheVariants as endings
 use Rattle.task_run.specs.declared.execution.Execution.{Execution}
 use Rattle.task_run.specs.declared.phase.Phase.{Phase}
-use Rattle.task_run.specs.declared.phase.Phase.TheVariants.{WriteFirst, Fetch}
+use Rattle.task_run.specs.declared.phase.Phase.TheVariants.{WriteCount, LoadTaken, WriteWritten}
 use Rattle.task_run.specs.declared.machine.TaskMachine.{TaskMachine}
-use Rattle.task_run.specs.Machine.{Action, Put, Get, Make, action, trap, phase_again, proceed, stepped}
-use Rattle.task_run.specs.Serving.{Assignment, assignment, whole, begun, with_effects, config_of, IsTrap, Progress, IsReady, Serving}
+use Rattle.task_run.specs.Machine.{Action, Put, Get, Make, action, want, take}
+use Rattle.task_run.specs.Serving.{rings_of, AreSent, Told, told, Progress, IsReady, Serving}
+
+-- the registers in a phase
+abbrev pub machine_at : Pick → ℕ → Buffer → Ending → Execution → Phase → TaskMachine
+machine_at pick stamp b ending e phase = record { pick = pick; stamp = stamp; buffer = b; ending = ending; execution = e; phase = phase }
+
+-- what one access leaves
+abbrev pub Steps : Program → Model → Memory → TaskMachine → Type 0
+Steps program m words r = Serving program (perform words (want program r)) m (take program r (answer words (want program r)))
+
+-- what is known in a phase reads commit words, rings and the thread's log alone
+pub progress_frame : (words new : Memory) (p : Told) (phase : Phase) → ((t : ℕ) → new (Commit t) ≡ words (Commit t)) →
+    ((q n : ℕ) → new (Ring q n) ≡ words (Ring q n)) → ((n : ℕ) → new (Log p.pick.thread.0 n) ≡ words (Log p.pick.thread.0 n)) →
+    Progress words p phase → Progress new p phase
+progress_frame words new p (WriteCount k) commit ring log h = (h.0, h.1, h.2, h.3, log (length p.y.outputs) ∙ h.4)
+progress_frame words new p (LoadTaken s c) commit ring log h = (h.0, h.1 ∙ sym (commit _))
+progress_frame words new p (WriteWritten s written) commit ring log h = (h.0, ring s.pipe _ ∙ h.1)
+progress_frame words new p _ commit ring log h = h
+
+-- and so does what was sent of rings
+pub sent_frame : (words new : Memory) (program : Program) (m : Model) (sends : List Sent) → ((q n : ℕ) → new (Ring q n) ≡ words (Ring q n)) →
+    AreSent (rings_of words) program m.pipes sends → AreSent (rings_of new) program m.pipes sends
+sent_frame words new program m sends ring h = λ q k known within. ring q _ ∙ h q k known within
 
 -- an action that has not begun to copy
 pub ready_fresh : (words : Memory) (t : ℕ) (b : Buffer) (a : Action) → b.copying ≡ Loading 0 → IsReady words t b a
@@ -52,12 +72,21 @@ picked_at program words new m pick same p = record {
   time = p.time;
   passed = p.passed;
   pending_is = p.pending_is;
-  first = p.first;
-  idle = p.idle;
+  held = p.held;
   running = p.running;
   position = p.position;
   commit_word = p.commit_word ∙ sym same;
+  first = p.first;
+  loaded = p.loaded;
 }
+
+-- a scan's time has 47 bits
+pub picked_time : (program : Program) (readings : Readings) (words : Memory) (m : Model) (pick : Pick) → IsSound program readings m → IsPicked program words m pick → pick.time < 2 ^ 47
+picked_time program readings words m pick sound p =
+    let is : pick.time ≡ p.scan.time = p.time in
+    let early : p.scan.time ≤ m.clock = sound.scan p.scan p.scanned in
+    let clock : m.clock < 2 ^ 47 = sound.clock in
+    omega arith
 
 -- one access of the copying of a clean page
 copy_serving : (program : Program) (m : Model) (words : Memory) (r : TaskMachine) (w v : ℕ) → Serving program words m r →
@@ -75,6 +104,7 @@ copy_serving program m words r w v h act clean copied =
     let log : log_of words t ≡ log_of n t = fun_ext (λ k. sym (copy_only words t b.commit p x (Log t k) tt)) in
     record {
       y = h.y;
+      sends = h.sends;
       s = h.s;
       o = h.o;
       v = h.v;
@@ -86,8 +116,11 @@ copy_serving program m words r w v h act clean copied =
       };
       ready = subst (λ a. IsReady n t b' a) (sym (act b')) (copy_goes_on words t b p x clean copied);
       logged = subst (λ l. AreLogged l h.y.outputs) log h.logged;
+      sent = sent_frame words n program m h.sends (λ q k. copy_only words t b.commit p x (Ring q k) tt) h.sent;
       size = h.size;
-      progress = subst (λ l. Progress (saved program m t) (assignment program m r.pick) r.pick r.stamp r.ending r.execution l r.phase h.y h.s h.o h.v) log h.progress;
+      progress =
+          progress_frame words n (told program m r h.y h.sends h.s h.o h.v) r.phase (λ u. copy_only words t b.commit p x (Commit u) tt)
+          (λ q k. copy_only words t b.commit p x (Ring q k) tt) (λ k. copy_only words t b.commit p x (Log t k) tt) h.progress;
     }
 
 -- one access of a write, which is done where the page is dirty
@@ -106,29 +139,30 @@ put_step program m words r w v next h act done =
     ]
 
 -- all that does not depend on the phase
-pub record Holding (program : Program) (words : Memory) (m : Model) (r : TaskMachine) (y : Saved) (s o v : ℕ) : Type 0 where
+pub record Holding (program : Program) (words : Memory) (m : Model) (r : TaskMachine) (y : Saved) (sends : List Sent) (s o v : ℕ) : Type 0 where
   pub picked : IsPicked program words m r.pick
   pub stamp : r.stamp ≡ m.commits
   pub buffered : Buffered words r.pick.thread.0 r.buffer (λ k. get_or (thread_words y s o v) k 0)
   pub fresh : r.buffer.copying ≡ Loading 0
   pub logged : AreLogged (log_of words r.pick.thread.0) y.outputs
+  pub sent : AreSent (rings_of words) program m.pipes sends
   pub size : length y.state ≡ (thread_def program r.pick.thread.0).state
 
 -- between two actions
 pub holding_load : (program : Program) (m : Model) (words : Memory) (r : TaskMachine) → (h : Serving program words m r) → r.buffer.copying ≡ Loading 0 →
-    Holding program words m r h.y h.s h.o h.v
+    Holding program words m r h.y h.sends h.s h.o h.v
 holding_load program m words r h fresh =
-    record { picked = h.picked; stamp = h.stamp; buffered = h.buffered; fresh = fresh; logged = h.logged; size = h.size }
+    record { picked = h.picked; stamp = h.stamp; buffered = h.buffered; fresh = fresh; logged = h.logged; sent = h.sent; size = h.size }
 
 -- after the write on the dirty page
-pub holding_put : (program : Program) (m : Model) (words : Memory) (r : TaskMachine) (w u : ℕ) (y : Saved) (s o v : ℕ) →
+pub holding_put : (program : Program) (m : Model) (words : Memory) (r : TaskMachine) (w u : ℕ) (y : Saved) (sends : List Sent) (s o v : ℕ) →
     (h : Serving program words m r) →
     bit_at r.buffer.dirty (w / 8) ≡ 1 → r.buffer.copying ≡ Loading 0 →
     ((k : ℕ) → put (λ j. get_or (thread_words h.y h.s h.o h.v) j 0) w u k ≡ get_or (thread_words y s o v) k 0) →
-    AreLogged (log_of words r.pick.thread.0) y.outputs →
+    AreLogged (log_of words r.pick.thread.0) y.outputs → AreSent (rings_of words) program m.pipes sends →
     length y.state ≡ (thread_def program r.pick.thread.0).state →
-    Holding program (store words (place_in r.pick.thread.0 (working_mask r.buffer) w) u) m r y s o v
-holding_put program m words r w u y s o v h dirty fresh contents logged size =
+    Holding program (store words (place_in r.pick.thread.0 (working_mask r.buffer) w) u) m r y sends s o v
+holding_put program m words r w u y sends s o v h dirty fresh contents logged sent size =
     let t : ℕ = r.pick.thread.0 in
     let b : Buffer = r.buffer in
     let n : Memory = store words (place_in t (working_mask b) w) u in
@@ -142,16 +176,17 @@ holding_put program m words r w u y s o v h dirty fresh contents logged size =
       };
       fresh = fresh;
       logged = subst (λ l. AreLogged l y.outputs) log logged;
+      sent = sent_frame words n program m sends (λ q k. dirty_put_only words t (working_mask b) w u (Ring q k) tt) sent;
       size = size;
     }
 
 -- the next phase, with what the run has come to
-pub serving_at : (program : Program) (m : Model) (words : Memory) (r : TaskMachine) (e : Execution) (phase : Phase) (y : Saved) (s o v : ℕ) →
-    Holding program words m r y s o v →
-    Progress (saved program m r.pick.thread.0) (assignment program m r.pick) r.pick r.stamp r.ending e (log_of words r.pick.thread.0) phase y s o v →
+pub serving_at : (program : Program) (m : Model) (words : Memory) (r : TaskMachine) (e : Execution) (phase : Phase) (y : Saved) (sends : List Sent) (s o v : ℕ) →
+    Holding program words m r y sends s o v → Progress words (told program m (record r { execution = e; phase = phase }) y sends s o v) phase →
     Serving program words m (record r { execution = e; phase = phase })
-serving_at program m words r e phase y s o v h progress = record {
+serving_at program m words r e phase y sends s o v h progress = record {
   y = y;
+  sends = sends;
   s = s;
   o = o;
   v = v;
@@ -160,6 +195,7 @@ serving_at program m words r e phase y s o v h progress = record {
   buffered = h.buffered;
   ready = ready_fresh words r.pick.thread.0 r.buffer (action program (record r { execution = e; phase = phase }) phase) h.fresh;
   logged = h.logged;
+  sent = h.sent;
   size = h.size;
   progress = progress;
 }
@@ -171,68 +207,3 @@ unwritten program m words t commit h is = record {
   commit = is;
   words = λ k. ap (λ c. working words t (no_writes c) k) is ∙ (no_writes_words words t k ∙ h.block k);
 }
-
--- a trap: the working copy is the committed one again
-pub trap_serving : (program : Program) (m : Model) (words : Memory) (r : TaskMachine) → StandsPrivate words program m → HasShape program m →
-    IsPicked program words m r.pick → r.stamp ≡ m.commits → r.buffer.commit ≡ words (Commit r.pick.thread.0) →
-    IsTrap (whole (assignment program m r.pick) (saved program m r.pick.thread.0)) → Serving program words m (trap r)
-trap_serving program m words r stands shape picked stamp is ends =
-    let t : ℕ = r.pick.thread.0 in
-    let x = stands.threads t picked.known in
-    let begins : Serving program words m (record r { buffer = no_writes r.buffer.commit; ending = endings.Trapped; phase = WriteFirst }) = record {
-      y = saved program m t;
-      s = x.stamp;
-      o = x.origin;
-      v = x.value;
-      picked = picked;
-      stamp = stamp;
-      buffered = unwritten program m words t r.buffer.commit x is;
-      ready = ready_fresh words t (no_writes r.buffer.commit) (action program (trap r) WriteFirst) refl;
-      logged = x.log;
-      size = shape.states t picked.known;
-      progress = (refl, inr (refl, ends));
-    } in
-    subst (λ running. Serving program words m (record r { buffer = no_writes r.buffer.commit; ending = endings.Trapped; phase = phase_again running })) (sym picked.running) begins
-
--- the run may go on from here, with `left` instructions
-pub record Going (x : Saved) (a : Assignment) (pick : Pick) (stamp : ℕ) (ending : Ending) (e : Execution) (cpu : Cpu) (y : Saved) (o v : ℕ) : Type 0 where
-  pub outs : List ℕ
-  pub made : y ≡ with_effects (stamp + 1) pick.thread.0 y.state outs (begun pick x)
-  pub rest : run a.code a.given a.room (a.limit - (e.executed + 1)) (config_of (stepped e cpu) y outs) ≡ whole a x
-  pub task : e.task.0 ≡ a.task
-  pub inside : cpu.at < length a.code
-  pub plain : ending ≡ endings.Done
-  pub origin : o ≡ origin_word pick.event.origin
-  pub value : v ≡ pick.event.value
-
--- an instruction is done
-pub proceed_serving : (program : Program) (m : Model) (words : Memory) (r : TaskMachine) (cpu : Cpu) (y : Saved) (s o v : ℕ) →
-    StandsPrivate words program m → HasShape program m → Holding program words m r y s o v →
-    Going (saved program m r.pick.thread.0) (assignment program m r.pick) r.pick r.stamp r.ending r.execution cpu y o v →
-    Serving program words m (proceed program r cpu)
-proceed_serving program m words r cpu y s o v stands shape h g =
-    let a : Assignment = assignment program m r.pick in
-    let x : Saved = saved program m r.pick.thread.0 in
-    let done : ℕ = r.execution.executed + 1 in
-    let same : (task_def program r.execution.task.0).limit ≡ a.limit = ap (λ k. (task_def program k).limit) g.task in
-    rw same
-    elim (cases_Bool (nat_lt done a.limit)) [
-      | inl t ↦
-          rw t (serving_at program m words r (stepped r.execution cpu) Fetch y s o v h (record {
-            outs = g.outs;
-            made = g.made;
-            rest = g.rest;
-            left = ltb-true done a.limit t;
-            task = g.task;
-            inside = g.inside;
-            plain = g.plain;
-            origin = g.origin;
-            value = g.value;
-          }))
-      | inr f ↦
-          let over : a.limit ≤ done = ltb-false done a.limit f in
-          let none : a.limit - done ≡ 0 = omega arith in
-          let ends : whole a x ≡ run a.code a.given a.room 0 (config_of (stepped r.execution cpu) y g.outs) =
-          sym g.rest ∙ ap (λ k. run a.code a.given a.room k (config_of (stepped r.execution cpu) y g.outs)) none
-          in rw f (trap_serving program m words r stands shape h.picked h.stamp h.buffered.commit (subst (λ z. IsTrap z) (sym ends) tt))
-    ]

@@ -1,7 +1,9 @@
--- Where the instructions of an accepted plain program lead.
+-- Where the instructions of an accepted program lead.
 use Rattle.std.proofs.Common.{◌≡◌, ℕ, ◌+◌, ◌-◌, ◌<◌, true, false, length, arith, refl, ◌∙◌, sym, inl, inr, subst}
-use Rattle.std.specs.Prelude.{◌==◌}
-use Rattle.std.proofs.lemmas.Bool.{false≢true, cases_Bool, cases_eq}
+use Rattle.std.specs.Prelude.{◌==◌, Option, Some, None}
+use Rattle.std.proofs.lemmas.Bool.{false≢true, cases_Bool, cases_eq, eqb-true}
+use Rattle.std.proofs.lemmas.List.Sums.{passes_at_first}
+use Rattle.ink_base.specs.declared.ids.TaskId.{TaskId}
 use Rattle.task_isa.specs.declared.instr.Instr.{Instr}
 use Rattle.task_isa.specs.declared.instr.Instr.TheVariants.{Li, Mov, Add, Sub, Mul, And, Or, Xor, Shl, Shr, Divu, Remu, Ltu, Eq, Jmp, Jz, Jnz, Ev, Kind, Num, Now, Ld, St, Out, Send, Arm, Stop, Next, Done}
 use Rattle.task_isa.specs.declared.act.Act.{Act}
@@ -9,56 +11,60 @@ use Rattle.task_isa.specs.declared.act.Act.TheVariants.{Sets, Goes, Loads, Saves
 use Rattle.task_isa.specs.declared.program.Program.{Program}
 use Rattle.task_isa.specs.declared.program.Task.{Task}
 use Rattle.task_isa.specs.Acts.{Given, Cpu, reg, act_of}
-use Rattle.prog_check.specs.Lookup.{task_def, instr_at}
+use Rattle.prog_check.specs.Lookup.{pipe_def, timer_def, task_def, no_task_def, instr_at, first_task}
 use Rattle.prog_check.specs.Accepted.{IsAccepted, IsRightInstr, IsRightTask, ends_code}
-use Rattle.never_cut.specs.Plain.{IsPlain, IsPlainInstr}
+use Rattle.never_cut.specs.declared.model.Model.{Model}
+use Rattle.never_cut.specs.State.{thread_of}
+use Rattle.never_cut.specs.Commit.{task_at}
+use Rattle.never_cut.specs.Entries.{Readings}
+use Rattle.never_cut.specs.Sound.{IsSound}
 
--- what an act of a plain program leads to is inside of its code
-abbrev pub Lands : (len at : ℕ) → Act → Type 0
-Lands len at (Sets a v) = at + 1 < len
-Lands len at (Goes offset) = offset < len
-Lands len at (Loads a n) = at + 1 < len
-Lands len at (Saves n v) = at + 1 < len
-Lands len at (Puts v) = at + 1 < len
-Lands len at (Sends pipe a v) = ⊥
-Lands len at (Arms timer delay period) = ⊥
-Lands len at (Stops timer) = ⊥
-Lands len at (Continues task) = ⊥
-Lands len at Ends = Unit {0}
-Lands len at (Traps code) = Unit {0}
+-- what an act leads to is inside of the code, and what it names is of the task's thread
+abbrev pub Lands : Program → (t len at : ℕ) → Act → Type 0
+Lands program t len at (Sets a v) = at + 1 < len
+Lands program t len at (Goes offset) = offset < len
+Lands program t len at (Loads a n) = at + 1 < len
+Lands program t len at (Saves n v) = at + 1 < len
+Lands program t len at (Puts v) = at + 1 < len
+Lands program t len at (Sends pipe a v) = (at + 1 < len) × (pipe < length program.pipes) × ((pipe_def program pipe).writer.0 ≡ t)
+Lands program t len at (Arms timer delay period) = (at + 1 < len) × (timer < length program.timers) × ((timer_def program timer).thread.0 ≡ t)
+Lands program t len at (Stops timer) = (at + 1 < len) × (timer < length program.timers) × ((timer_def program timer).thread.0 ≡ t)
+Lands program t len at (Continues task) = (task < length program.tasks) × ((task_def program task).thread.0 ≡ t)
+Lands program t len at Ends = Unit {0}
+Lands program t len at (Traps code) = Unit {0}
 
-lands : (program : Program) (task : Task) (given : Given) (cpu : Cpu) (i : Instr) → IsRightInstr program task i → IsPlainInstr i →
-    (ends_code i ≡ false → cpu.at + 1 < length task.code) → Lands (length task.code) cpu.at (act_of i given cpu)
+lands : (program : Program) (task : Task) (given : Given) (cpu : Cpu) (i : Instr) → IsRightInstr program task i →
+    (ends_code i ≡ false → cpu.at + 1 < length task.code) → Lands program task.thread.0 (length task.code) cpu.at (act_of i given cpu)
 unfolding act_of
-lands program task given cpu (Li a i) right plain next = next refl
-lands program task given cpu (Mov a b) right plain next = next refl
-lands program task given cpu (Add a b c) right plain next = next refl
-lands program task given cpu (Sub a b c) right plain next = next refl
-lands program task given cpu (Mul a b c) right plain next = next refl
-lands program task given cpu (And a b c) right plain next = next refl
-lands program task given cpu (Or a b c) right plain next = next refl
-lands program task given cpu (Xor a b c) right plain next = next refl
-lands program task given cpu (Shl a b c) right plain next = next refl
-lands program task given cpu (Shr a b c) right plain next = next refl
-lands program task given cpu (Divu a b c) right plain next = elim (cases_Bool (reg cpu c == 0)) [ inl t ↦ rw t tt | inr f ↦ rw f (next refl) ]
-lands program task given cpu (Remu a b c) right plain next = elim (cases_Bool (reg cpu c == 0)) [ inl t ↦ rw t tt | inr f ↦ rw f (next refl) ]
-lands program task given cpu (Ltu a b c) right plain next = next refl
-lands program task given cpu (Eq a b c) right plain next = next refl
-lands program task given cpu (Jmp i) right plain next = right
-lands program task given cpu (Jz a i) right plain next = elim (cases_Bool (reg cpu a == 0)) [ inl t ↦ rw t right | inr f ↦ rw f (next refl) ]
-lands program task given cpu (Jnz a i) right plain next = elim (cases_Bool (reg cpu a == 0)) [ inl t ↦ rw t (next refl) | inr f ↦ rw f right ]
-lands program task given cpu (Ev a) right plain next = next refl
-lands program task given cpu (Kind a) right plain next = next refl
-lands program task given cpu (Num a) right plain next = next refl
-lands program task given cpu (Now a) right plain next = next refl
-lands program task given cpu (Ld a b) right plain next = next refl
-lands program task given cpu (St a b) right plain next = next refl
-lands program task given cpu (Out a) right plain next = next refl
-lands program task given cpu (Send i a b) right plain next = absurd plain
-lands program task given cpu (Arm i a b) right plain next = absurd plain
-lands program task given cpu (Stop i) right plain next = absurd plain
-lands program task given cpu (Next i) right plain next = absurd plain
-lands program task given cpu Done right plain next = tt
+lands program task given cpu (Li a i) right next = next refl
+lands program task given cpu (Mov a b) right next = next refl
+lands program task given cpu (Add a b c) right next = next refl
+lands program task given cpu (Sub a b c) right next = next refl
+lands program task given cpu (Mul a b c) right next = next refl
+lands program task given cpu (And a b c) right next = next refl
+lands program task given cpu (Or a b c) right next = next refl
+lands program task given cpu (Xor a b c) right next = next refl
+lands program task given cpu (Shl a b c) right next = next refl
+lands program task given cpu (Shr a b c) right next = next refl
+lands program task given cpu (Divu a b c) right next = elim (cases_Bool (reg cpu c == 0)) [ inl t ↦ rw t tt | inr f ↦ rw f (next refl) ]
+lands program task given cpu (Remu a b c) right next = elim (cases_Bool (reg cpu c == 0)) [ inl t ↦ rw t tt | inr f ↦ rw f (next refl) ]
+lands program task given cpu (Ltu a b c) right next = next refl
+lands program task given cpu (Eq a b c) right next = next refl
+lands program task given cpu (Jmp i) right next = right
+lands program task given cpu (Jz a i) right next = elim (cases_Bool (reg cpu a == 0)) [ inl t ↦ rw t right | inr f ↦ rw f (next refl) ]
+lands program task given cpu (Jnz a i) right next = elim (cases_Bool (reg cpu a == 0)) [ inl t ↦ rw t (next refl) | inr f ↦ rw f right ]
+lands program task given cpu (Ev a) right next = next refl
+lands program task given cpu (Kind a) right next = next refl
+lands program task given cpu (Num a) right next = next refl
+lands program task given cpu (Now a) right next = next refl
+lands program task given cpu (Ld a b) right next = next refl
+lands program task given cpu (St a b) right next = next refl
+lands program task given cpu (Out a) right next = next refl
+lands program task given cpu (Send i a b) right next = (next refl, right.0, right.1)
+lands program task given cpu (Arm i a b) right next = (next refl, right.0, right.1)
+lands program task given cpu (Stop i) right next = (next refl, right.0, right.1)
+lands program task given cpu (Next i) right next = right
+lands program task given cpu Done right next = tt
 
 -- an instruction that goes on isn't the last one
 not_last : (program : Program) (task : Task) (at : ℕ) → IsRightTask program task → at < length task.code → ends_code (instr_at task at) ≡ false →
@@ -72,10 +78,28 @@ not_last program task at right inside goes =
       | inr ne ↦ omega arith
     ]
 
-pub task_lands : (program : Program) (x at : ℕ) (given : Given) (cpu : Cpu) → IsAccepted program → IsPlain program → x < length program.tasks →
+pub task_lands : (program : Program) (x at : ℕ) (given : Given) (cpu : Cpu) → IsAccepted program → x < length program.tasks →
     cpu.at ≡ at → at < length (task_def program x).code →
-    Lands (length (task_def program x).code) cpu.at (act_of (instr_at (task_def program x) at) given cpu)
-task_lands program x at given cpu accepted plain known same inside =
+    Lands program (task_def program x).thread.0 (length (task_def program x).code) cpu.at (act_of (instr_at (task_def program x) at) given cpu)
+task_lands program x at given cpu accepted known same inside =
     let right = accepted.tasks x known in
-    lands program (task_def program x) given cpu (instr_at (task_def program x) at) (right.instrs at inside) (plain.code x at known inside)
+    lands program (task_def program x) given cpu (instr_at (task_def program x) at) (right.instrs at inside)
     (λ goes. rw same (not_last program (task_def program x) at right inside goes))
+
+-- the first task of a thread is one of its own
+pub first_own : (program : Program) (t : ℕ) → first_task program t < length program.tasks → (task_def program (first_task program t)).thread.0 ≡ t
+first_own program t known = eqb-true _ _ (passes_at_first (λ (task : Task). task.thread.0 == t) program.tasks no_task_def known)
+
+-- the task that a commit runs is one of the program, and of the thread
+pub record IsOwnTask (program : Program) (t task : ℕ) : Type 0 where
+  pub known : task < length program.tasks
+  pub own : (task_def program task).thread.0 ≡ t
+
+pub own_task : (program : Program) (readings : Readings) (m : Model) (t : ℕ) → IsAccepted program → IsSound program readings m → t < length program.threads →
+    IsOwnTask program t (task_at program m t)
+own_task program readings m t accepted sound known = by_running (thread_of m t).running refl
+  where
+    by_running : (running : Option TaskId) → (thread_of m t).running ≡ running →
+        IsOwnTask program t (elim running [ Some task ↦ task.0 | None ↦ first_task program t ])
+    by_running (Some task) is = let chain = (sound.threads t known).chain task is in record { known = chain.known; own = chain.own }
+    by_running None is = record { known = accepted.served t known; own = first_own program t (accepted.served t known) }

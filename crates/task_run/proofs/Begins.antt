@@ -1,41 +1,53 @@
 -- A scan's pick tells what a task's first registers have to.
-use Rattle.std.proofs.Common.{◌≡◌, ℕ, refl, sym, subst, inl}
+use Rattle.std.proofs.Common.{◌≡◌, ℕ, [], refl, ap}
+use Rattle.std.specs.Prelude.{Option, Some, None}
+use Rattle.ink_base.specs.declared.ids.TaskId.{TaskId}
 use Rattle.fram_words.specs.Places.{Memory}
-use Rattle.thread_state.specs.Pages.{no_writes}
 use Rattle.task_isa.specs.declared.program.Program.{Program}
 use Rattle.ink_layout.specs.declared.pick.Pick.{Pick}
 use Rattle.never_cut.specs.declared.model.Model.{Model}
-use Rattle.never_cut.specs.Stands.{saved}
+use Rattle.never_cut.specs.Stands.{Saved, saved, StandsThread}
 use Rattle.never_cut.specs.Entries.{Readings}
 use Rattle.never_cut.specs.Picked.{IsPicked}
 use Rattle.never_cut.specs.Steps.{Background}
-use Rattle.task_run.specs.declared.phase.Phase.TheVariants.{WriteFirst}
-use Rattle.task_run.specs.declared.machine.TaskMachine.{TaskMachine}
-use Rattle.task_run.specs.Machine.{action, begin, first_phase}
-use Rattle.task_run.specs.Serving.{Serving}
+use Rattle.task_run.specs.declared.phase.Phase.TheVariants.{WriteFirst, Resume}
+use Rattle.task_run.specs.Machine.{begin, first_phase, execution_of, running_task}
+use Rattle.task_run.specs.Serving.{Begins as Starts}
 use Rattle.task_run.specs.Knows.{Knows, KnowsAt, EveryPickBegins}
-use Rattle.task_run.proofs.Accesses.{ready_fresh, unwritten}
+use Rattle.task_run.proofs.Accesses.{Holding, unwritten, serving_at}
+use Rattle.task_run.proofs.Traps.{unsent, chain_words}
+use Rattle.task_run.proofs.Resumes.{late-idle}
 
-begins : (program : Program) (readings : Readings) (words : Memory) (m : Model) (pick : Pick) (stamp : ℕ) → Background program readings words m →
-    IsPicked program words m pick → stamp ≡ m.commits → Knows program words m (begin pick stamp)
-begins program readings words m pick stamp g p is =
-    let t : ℕ = pick.thread.0 in
-    let x = g.private.threads t p.known in
-    let r : TaskMachine = record (begin pick stamp) { phase = WriteFirst } in
-    let first : Serving program words m r = record {
-      y = saved program m t;
-      s = x.stamp;
-      o = x.origin;
-      v = x.value;
-      picked = p;
-      stamp = is;
-      buffered = unwritten program m words t pick.commit_word x p.commit_word;
-      ready = ready_fresh words t (no_writes pick.commit_word) (action program r WriteFirst) refl;
-      logged = x.log;
-      size = g.sound.shape.states t p.known;
-      progress = (refl, inl refl);
-    } in
-    subst (λ running. KnowsAt program words m (record (begin pick stamp) { phase = first_phase running }) (first_phase running)) (sym p.running) first
+module _ (program : Program) (readings : Readings) (words : Memory) (m : Model) (pick : Pick) (stamp : ℕ) (g : Background program readings words m)
+    (p : IsPicked program words m pick) (is : stamp ≡ m.commits) where
+  abbrev x : Saved
+  x = saved program m pick.thread.0
+
+  abbrev stands : StandsThread words program m pick.thread.0
+  stands = g.private.threads pick.thread.0 p.known
+
+  held : Holding program words m (begin pick stamp) x [] stands.stamp stands.origin stands.value
+  held = record {
+    picked = p;
+    stamp = is;
+    buffered = unwritten program m words pick.thread.0 pick.commit_word stands p.commit_word;
+    fresh = refl;
+    logged = stands.log;
+    sent = unsent program m words g.private;
+    size = g.sound.shape.states pick.thread.0 p.known;
+  }
+
+  by_running : (running : Option TaskId) → pick.running ≡ running → KnowsAt program words m (record (begin pick stamp) { phase = first_phase running }) (first_phase running)
+  by_running None idle =
+      serving_at program m words (begin pick stamp) (begin pick stamp).execution WriteFirst x [] stands.stamp stands.origin stands.value held
+      (record { idle = idle; early = late-idle program words m pick p idle; is = refl; unsent = refl; before = Starts })
+  by_running (Some task) runs =
+      let event = chain_words program words m pick task stands p runs in
+      serving_at program m words (begin pick stamp) (begin pick stamp).execution Resume x [] stands.stamp stands.origin stands.value held
+      (task, runs, refl, refl, refl, ap (λ r. execution_of (running_task r)) runs, event.0, event.1)
+
+  pub begins : Knows program words m (begin pick stamp)
+  begins = by_running pick.running refl
 
 pub every_pick : EveryPickBegins
 every_pick = begins

@@ -1,5 +1,5 @@
--- An access that keeps the committed copies, the code, the committed outputs and the rings keeps what the words stand for.
-use Rattle.std.proofs.Common.{◌≡◌, ℕ, ◌+◌, ◌/◌, ◌%◌, ◌<◌, ◌≤◌, length, arith, refl, ap, ◌∙◌, sym, inl, inr, subst}
+-- An access that keeps the committed copies, the code, the committed outputs and the items in the rings keeps what the words stand for.
+use Rattle.std.proofs.Common.{◌≡◌, ◌≢◌, ℕ, ◌+◌, ◌/◌, ◌%◌, ◌<◌, ◌≤◌, length, arith, refl, ap, ◌∙◌, sym, inl, inr, subst}
 use Rattle.std.proofs.lemmas.Bool.{cases_Bool, cases_eq, eqb-true}
 use Rattle.std.specs.Int.{bit_at}
 use Rattle.fram_words.specs.Places.{Place, Code, Commit, Page, Log, Ring, Tail, Slot, Clock, Memory, store, perform}
@@ -31,14 +31,15 @@ pub private_frame : (program : Program) (words new : Memory) (m : Model) →
     ((x k : ℕ) → new (Code x k) ≡ words (Code x k)) →
     ((t w : ℕ) → committed new t w ≡ committed words t w) →
     ((t k : ℕ) → k < length (outputs_of m t) → new (Log t k) ≡ words (Log t k)) →
-    ((q k : ℕ) → new (Ring q k) ≡ words (Ring q k)) →
+    ((q k : ℕ) → q < length program.pipes → k < length (pipe_of m q).items →
+    let n = ((pipe_of m q).taken + k) % (pipe_def program q).places in new (Ring q n) ≡ words (Ring q n)) →
     StandsPrivate words program m → StandsPrivate new program m
 private_frame program words new m code pages log ring h = record {
   code = λ x k lt within. code x k ∙ h.code x k lt within;
   threads = λ t lt. thread_frame program words new m t (pages t) (log t) (h.threads t lt);
   stamps = λ t lt. rw (pages t 0) (h.stamps t lt);
   newest = elim h.newest [ inl e ↦ inl e | inr e ↦ inr (e.0, e.1, pages e.0 0 ∙ e.2) ];
-  pipes = λ q lt k within. ring q (((pipe_of m q).taken + k) % (pipe_def program q).places) ∙ h.pipes q lt k within;
+  pipes = λ q lt k within. ring q k lt within ∙ h.pipes q lt k within;
 }
 
 -- and one that keeps queues and clock
@@ -92,7 +93,7 @@ put_step_private program words m t b u v is under h =
     (λ x k. put_step_only words t b u v (Code x k) tt)
     (put_step_committed words t b u v is under)
     (λ x k within. put_step_only words t b u v (Log x k) tt)
-    (λ q k. put_step_only words t b u v (Ring q k) tt)
+    (λ q k known within. put_step_only words t b u v (Ring q (((pipe_of m q).taken + k) % (pipe_def program q).places)) tt)
     h
 
 pub put_step_kernel : (program : Program) (words : Memory) (m : Model) (t : ℕ) (b : Buffer) (u v : ℕ) →
@@ -115,8 +116,26 @@ log_step_private program words m t n v beyond h =
     let same : t ≡ x = cc in let at : n ≡ k = cc in
     let far : length (outputs_of m x) ≤ n = subst (λ z. length (outputs_of m z) ≤ n) same beyond in
     absurd (omega arith))
-    (λ q k. refl)
+    (λ q k known within. refl)
     h
 
 pub log_step_kernel : (program : Program) (words : Memory) (m : Model) (t n v : ℕ) → StandsForKernel words program m → StandsForKernel (store words (Log t n) v) program m
 log_step_kernel program words m t n v h = kernel_frame program words (store words (Log t n) v) m (λ x. refl) (λ x k. refl) refl h
+
+-- an item in a ring word that holds none of the pipe's items
+pub ring_step_private : (program : Program) (words : Memory) (m : Model) (q n v : ℕ) →
+    ((k : ℕ) → k < length (pipe_of m q).items → n ≢ ((pipe_of m q).taken + k) % (pipe_def program q).places) →
+    StandsPrivate words program m → StandsPrivate (store words (Ring q n) v) program m
+ring_step_private program words m q n v free h =
+    private_frame program words (store words (Ring q n) v) m
+    (λ x k. refl)
+    (λ x w. refl)
+    (λ x k within. refl)
+    (λ u k known within. store-other words (Ring q n) (Ring u (((pipe_of m u).taken + k) % (pipe_def program u).places)) v λ e.
+    let same : q ≡ u = cc in
+    let at : n ≡ ((pipe_of m u).taken + k) % (pipe_def program u).places = cc in
+    free k (subst (λ z. k < length (pipe_of m z).items) (sym same) within) (subst (λ z. n ≡ ((pipe_of m z).taken + k) % (pipe_def program z).places) (sym same) at))
+    h
+
+pub ring_step_kernel : (program : Program) (words : Memory) (m : Model) (q n v : ℕ) → StandsForKernel words program m → StandsForKernel (store words (Ring q n) v) program m
+ring_step_kernel program words m q n v h = kernel_frame program words (store words (Ring q n) v) m (λ x. refl) (λ x k. refl) refl h

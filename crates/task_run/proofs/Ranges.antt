@@ -1,172 +1,211 @@
 -- The numbers of a task's registers are in their ranges.
-use Rattle.std.proofs.Common.{◌≡◌, ℕ, ◌+◌, ◌-◌, ◌^◌, ◌<◌, ◌≤◌, false, length, arith, refl, ap, ◌∙◌, sym, subst}
+use Rattle.std.proofs.Common.{◌≡◌, ℕ, ◌+◌, ◌*◌, ◌-◌, ◌^◌, ◌<◌, ◌≤◌, false, List, length, get_or, arith, refl, ap, ◌∙◌, sym, subst}
+use Rattle.std.specs.Prelude.{Some}
 use Rattle.std.proofs.lemmas.Bool.{false≢true}
-use Rattle.std.proofs.lemmas.List.Sums.{get_or-le-sum_by}
-use Rattle.ink_base.specs.declared.event.Event.{Event}
-use Rattle.ink_base.specs.declared.event.Origin.TheVariants as origins
+use Rattle.ink_base.specs.declared.ids.TaskId.{TaskId}
 use Rattle.fram_words.specs.Places.{Memory, answer}
-use Rattle.task_isa.specs.declared.program.Program.{Program}
-use Rattle.task_isa.specs.declared.program.Task.{Task}
-use Rattle.prog_check.specs.Lookup.{thread_def, task_def, no_task_def, code_len}
-use Rattle.prog_check.specs.Accepted.{IsAccepted}
-use Rattle.ink_layout.specs.declared.pick.Pick.{Pick}
 use Rattle.thread_state.specs.Pages.{Buffer, working}
+use Rattle.task_isa.specs.declared.program.Program.{Program}
+use Rattle.task_isa.specs.declared.sent.Sent.{Sent}
+use Rattle.task_isa.specs.Acts.{number_of}
+use Rattle.task_isa.specs.Meaning.{sent_to}
+use Rattle.prog_check.specs.Lookup.{thread_def, pipe_def}
+use Rattle.ink_layout.specs.declared.pick.Pick.{Pick}
 use Rattle.never_cut.specs.declared.model.Model.{Model}
-use Rattle.never_cut.specs.State.{thread_of}
+use Rattle.never_cut.specs.State.{thread_of, pipe_of}
+use Rattle.never_cut.specs.Commit.{task_at, rooms}
 use Rattle.never_cut.specs.Entries.{Readings}
-use Rattle.never_cut.specs.Stands.{Saved, saved, published, event_at}
-use Rattle.never_cut.specs.Sound.{IsQueued}
-use Rattle.never_cut.specs.Actors.{IsFinishing}
+use Rattle.never_cut.specs.Stands.{Saved, saved}
+use Rattle.never_cut.specs.Picked.{IsPicked}
 use Rattle.never_cut.specs.Steps.{Background}
+use Rattle.never_cut.proofs.PickedEvents.{IsServable, picked_event}
 use Rattle.task_run.specs.declared.ending.Ending.{Ending}
 use Rattle.task_run.specs.declared.execution.Execution.{Execution}
+use Rattle.task_run.specs.declared.sending.Sending.{Sending}
 use Rattle.task_run.specs.declared.phase.Phase.{Phase}
-use Rattle.task_run.specs.declared.phase.Phase.TheVariants.{WriteFirst, WriteOrigin, WriteValue, Fetch, ReadState, WriteState, ReadCount, StoreLog, WriteCount, WriteNext, WriteFinished, ReadTotal, WriteTotal, WriteStamp, StoreCommit, StoreAck, StoreEmpty, Over}
+use Rattle.task_run.specs.declared.phase.Phase.TheVariants.{WriteFirst, WriteOrigin, WriteValue, WriteTaken, ReadPeriod, WriteDue, Resume, Fetch, ReadState, WriteState, ReadCount, StoreLog, WriteCount, LoadReader, LoadTaken, ReadWritten, StoreItem, WriteWritten, WriteArmed, WritePeriod, WriteStopped, WriteNext, WriteFinished, ReadTotal, WriteTotal, WriteStamp, StoreCommit, StoreAck, StoreEmpty, Over}
 use Rattle.task_run.specs.Endings.{total_word}
-use Rattle.task_run.specs.Machine.{want, is_over}
-use Rattle.task_run.specs.Fits.{FitsExecution, FitsOrigin, FitsPhase, FitsTask}
-use Rattle.task_run.specs.Serving.{assignment, whole, total_of, Running, Serving}
+use Rattle.task_run.specs.Machine.{want, is_over, execution_of}
+use Rattle.task_run.specs.Fits.{FitsExecution, FitsPhase, FitsWord, FitsTask}
+use Rattle.task_run.specs.Serving.{assignment, total_of, told, RunningIn, SendingTo, Serving}
 use Rattle.task_run.specs.Knows.{Releasing, KnowsAt, EveryTaskFits}
-use Rattle.task_run.proofs.Words.{words-of_total}
-use Rattle.task_run.proofs.Events.{machine_at}
-use Rattle.task_run.proofs.Ends.{IsOf, picked_of, of_ends}
-
--- a task has at most as many instructions as all tasks
-code_small : (program : Program) (x : ℕ) → IsAccepted program → x < length program.tasks → length (task_def program x).code ≤ 4096
-code_small program x accepted known =
-    let few = accepted.counts.code in
-    let one : length (task_def program x).code ≤ code_len program = get_or-le-sum_by (λ (task : Task). length task.code) program.tasks x no_task_def known in
-    omega arith
-
-running_fits : (program : Program) (m : Model) (pick : Pick) (stamp : ℕ) (ending : Ending) (e : Execution) (y : Saved) (o v : ℕ) → IsAccepted program → pick.thread.0 < length program.threads →
-    Running (saved program m pick.thread.0) (assignment program m pick) pick stamp ending e y o v → FitsExecution program e
-running_fits program m pick stamp ending e y o v accepted known g =
-    let first : ℕ = (assignment program m pick).task in
-    let right = accepted.tasks first (accepted.served pick.thread.0 known) in
-    let small : length (task_def program first).code ≤ 4096 = code_small program first accepted (accepted.served pick.thread.0 known) in
-    let limit : (task_def program first).limit ≤ 4096 = right.limit in
-    let inside : e.at < length (task_def program first).code = g.inside in
-    let left : e.executed < (task_def program first).limit = g.left in
-    record {
-      task = rw g.task (accepted.served pick.thread.0 known);
-      inside = rw g.task inside;
-      small = omega arith;
-      few = omega arith;
-      left = rw g.task left;
-    }
-
-origin_fits : (program : Program) (e : Event) → IsOf program e → FitsOrigin e.origin
-origin_fits program e of = subst (λ o. FitsOrigin o) (sym of.is) tt
-
--- the position and the slot one turn behind it fit their bits
-position_fits : (program : Program) (readings : Readings) (words : Memory) (m : Model) (t p : ℕ) → Background program readings words m → t < length program.threads →
-    p ≡ (thread_of m t).released → p + (thread_def program t).queue < 2 ^ 21
-position_fits program readings words m t p g known is =
-    let small : published (thread_of m t) < 2 ^ 20 = g.shared.small t known in
-    let queue : (thread_def program t).queue ≤ 32 = (g.accepted.threads t known).queue in
-    omega arith
-
--- a source whose event is finished is one of the program
-source_known : (program : Program) (readings : Readings) (words : Memory) (m : Model) (t i count : ℕ) → Background program readings words m → t < length program.threads →
-    IsFinishing m t i count → i < length program.sources
-source_known program readings words m t i count g known h =
-    let some : 0 < length (thread_of m t).held = rw h.first.1 (omega arith) in
-    let e : Event = record { origin = origins.Source (record { 0 = i }) count; value = h.value } in
-    let here : event_at (thread_of m t).held 0 ≡ e = ap (λ l. event_at l 0) h.first.1 in
-    let queued : IsQueued program t e = subst (λ z. IsQueued program t z) here ((g.sound.threads t known).queued 0 some) in
-    queued.0
+use Rattle.task_run.proofs.Words.{words-of_total, words-of_written, words-of_period}
+use Rattle.task_run.proofs.Accesses.{machine_at, picked_time}
+use Rattle.task_run.proofs.Acts.{IsOwnTask, own_task}
+use Rattle.task_run.proofs.SentItems.{room_at}
+use Rattle.task_run.proofs.Rooms.{has_sent}
+use Rattle.task_run.proofs.Sendings.{taken_found}
+use Rattle.task_run.proofs.Limits.{execution_fits, position_fits, source_known, origin_fits, pipe_fits, timer_known, due_fits, period_fits, chain_fits, total_fits}
 
 module _ (program : Program) (readings : Readings) (words : Memory) (m : Model) (pick : Pick) (stamp : ℕ) (b : Buffer) (ending : Ending) (e : Execution)
     (g : Background program readings words m) (few : m.commits + 1 < 2 ^ 32) where
-  serving_fits : (phase : Phase) (word : ℕ) → Serving program words m (machine_at pick stamp b ending e phase) →
-      FitsPhase program (machine_at pick stamp b ending e phase) phase word → FitsTask program (machine_at pick stamp b ending e phase) word
-  serving_fits phase word h fits = record {
+  serving_fits : (phase : Phase) → Serving program words m (machine_at pick stamp b ending e phase) →
+      FitsPhase program (machine_at pick stamp b ending e phase) phase → FitsTask program (machine_at pick stamp b ending e phase)
+  serving_fits phase h fits = record {
     thread = h.picked.known;
     stamp = rw h.stamp few;
+    time = picked_time program readings words m pick g.sound h.picked;
     position = position_fits program readings words m pick.thread.0 pick.position g h.picked.known h.picked.position;
     phase = fits;
   }
 
-  releasing_fits : (phase : Phase) (word i count : ℕ) → Releasing program m pick stamp i count →
-      FitsPhase program (machine_at pick stamp b ending e phase) phase word → FitsTask program (machine_at pick stamp b ending e phase) word
-  releasing_fits phase word i count h fits = record {
+  releasing_fits : (phase : Phase) (i count : ℕ) → Releasing program m pick stamp i count →
+      FitsPhase program (machine_at pick stamp b ending e phase) phase → FitsTask program (machine_at pick stamp b ending e phase)
+  releasing_fits phase i count h fits = record {
     thread = h.known;
     stamp = let is : stamp + 1 ≡ m.commits = h.commits in omega arith;
+    time = h.time;
     position = position_fits program readings words m pick.thread.0 pick.position g h.known h.position;
     phase = fits;
   }
+
+  -- the pick's event is one that its thread can serve
+  servable : IsPicked program words m pick → IsServable program pick.thread.0 pick.event
+  servable p = picked_event program readings words m pick g.sound p (omega arith)
+
+  own : IsPicked program words m pick → IsOwnTask program pick.thread.0 (task_at program m pick.thread.0)
+  own p = own_task program readings m pick.thread.0 g.accepted g.sound p.known
+
+  -- an instruction of the pick's task is executed
+  executing : (phase : Phase) (y : Saved) (sends : List Sent) (s o v : ℕ) → IsPicked program words m pick →
+      RunningIn (told program m (machine_at pick stamp b ending e phase) y sends s o v) → FitsExecution program e
+  executing phase y sends s o v p run = execution_fits program (task_at program m pick.thread.0) e g.accepted (own p).known run.task run.inside run.left
+
+  resuming : (task : TaskId) → IsPicked program words m pick → pick.running ≡ Some task → e ≡ execution_of task → FitsExecution program e
+  resuming task p runs is =
+      let running : (thread_of m pick.thread.0).running ≡ Some task = sym p.running ∙ runs in
+      let known = ((g.sound.threads pick.thread.0 p.known).chain task running).known in
+      let right = g.accepted.tasks task.0 known in
+      subst (λ z. FitsExecution program z) (sym is) (execution_fits program task.0 (execution_of task) g.accepted known refl right.code right.limit_least)
+
+  chain_began : (p : IsPicked program words m pick) → (thread_of m pick.thread.0).first ≤ pick.time
+  chain_began p = let time : pick.time ≡ p.scan.time = p.time in rw time (g.sound.begun p.scan p.scanned pick.thread.0)
+
+  sending : (phase : Phase) (s : Sending) (h : Serving program words m (machine_at pick stamp b ending e phase)) →
+      SendingTo (told program m (machine_at pick stamp b ending e phase) h.y h.sends h.s h.o h.v) s → FitsExecution program e × (s.pipe < length program.pipes)
+  sending phase s h to = (executing phase h.y h.sends h.s h.o h.v h.picked to.executing.running, to.pipe)
+
+  taken_fits : (q taken : ℕ) → q < length program.pipes → taken ≡ (pipe_of m q).taken → taken < 2 ^ 32
+  taken_fits q taken known is = let most : (pipe_of m q).taken ≤ m.commits = (g.sound.pipes q known).few in omega arith
+
+  written_fits : (q written : ℕ) → q < length program.pipes → written < (pipe_of m q).taken + (pipe_def program q).places → written < 2 ^ 33
+  written_fits q written known room =
+      let most : (pipe_of m q).taken ≤ m.commits = (g.sound.pipes q known).few in
+      let places : (pipe_def program q).places ≤ 64 = (g.accepted.pipes q known).places in
+      omega arith
+
+  -- the numbers of each phase
+  fits : (phase : Phase) → KnowsAt program words m (machine_at pick stamp b ending e phase) phase → is_over phase ≡ false →
+      FitsTask program (machine_at pick stamp b ending e phase)
+  fits WriteFirst h more = serving_fits WriteFirst h tt
+  fits WriteOrigin h more = serving_fits WriteOrigin h (origin_fits program pick.thread.0 pick.event.origin pick.event.value (servable h.picked))
+  fits WriteValue h more = serving_fits WriteValue h tt
+  fits WriteTaken h more =
+      serving_fits WriteTaken h (pipe_fits program pick.thread.0 pick pick.event.origin pick.event.value g.accepted.counts.pipes h.progress.3 (servable h.picked) (h.picked.loaded h.progress.0.idle))
+  fits ReadPeriod h more =
+      let known = timer_known program pick.thread.0 pick.event.origin pick.event.value g.accepted.counts.timers h.progress.3 (servable h.picked) in
+      let due = due_fits program pick.thread.0 pick pick.event.origin pick.event.value h.progress.3 (servable h.picked) (h.picked.loaded h.progress.0.idle) in
+      serving_fits ReadPeriod h (known, due.0, due.1)
+  fits (WriteDue w) h more =
+      serving_fits (WriteDue w) h (timer_known program pick.thread.0 pick.event.origin pick.event.value g.accepted.counts.timers h.progress.3 (servable h.picked))
+  fits Resume h more =
+      serving_fits Resume h (
+        resuming h.progress.0 h.picked h.progress.1 h.progress.5,
+        chain_fits (thread_def program pick.thread.0).expires pick.running pick.first pick.time (thread_of m pick.thread.0).first h.picked.first (chain_began h.picked),
+      )
+  fits Fetch h more = serving_fits Fetch h (executing Fetch h.y h.sends h.s h.o h.v h.picked h.progress)
+  fits (ReadState c n) h more =
+      serving_fits (ReadState c n) h (executing (ReadState c n) h.y h.sends h.s h.o h.v h.picked h.progress.0.running, rw (← h.size) h.progress.1)
+  fits (WriteState n v) h more =
+      serving_fits (WriteState n v) h (executing (WriteState n v) h.y h.sends h.s h.o h.v h.picked h.progress.0.running, rw (← h.size) h.progress.1)
+  fits (ReadCount v) h more = serving_fits (ReadCount v) h tt
+  fits (StoreLog n v) h more =
+      let t : ℕ = pick.thread.0 in
+      let log : length (saved program m t).outputs ≤ (thread_def program t).log = (g.sound.threads t h.picked.known).outputs in
+      let at : n ≡ length h.y.outputs = h.progress.1 in
+      let below : length h.y.outputs < length (saved program m t).outputs + ((thread_def program t).log - length (saved program m t).outputs) = h.progress.2 in
+      serving_fits (StoreLog n v) h (omega arith)
+  fits (WriteCount k) h more = serving_fits (WriteCount k) h (executing (WriteCount k) h.y h.sends h.s h.o h.v h.picked h.progress.1.running)
+  fits (LoadReader s) h more = serving_fits (LoadReader s) h (sending (LoadReader s) s h h.progress)
+  fits (LoadTaken s c) h more = serving_fits (LoadTaken s c) h (sending (LoadTaken s c) s h h.progress.0)
+  fits (ReadWritten s taken) h more =
+      serving_fits (ReadWritten s taken) h (sending (ReadWritten s taken) s h h.progress.0, taken_fits s.pipe taken h.progress.0.pipe h.progress.1)
+  fits (StoreItem s written) h more =
+      serving_fits (StoreItem s written) h (sending (StoreItem s written) s h h.progress.sending, written_fits s.pipe written h.progress.sending.pipe h.progress.room)
+  fits (WriteWritten s written) h more =
+      serving_fits (WriteWritten s written) h (sending (WriteWritten s written) s h h.progress.0.sending, written_fits s.pipe written h.progress.0.sending.pipe h.progress.0.room)
+  fits (WriteArmed timer delay period) h more =
+      serving_fits (WriteArmed timer delay period) h
+      (executing (WriteArmed timer delay period) h.y h.sends h.s h.o h.v h.picked h.progress.executing.running, h.progress.known)
+  fits (WritePeriod timer period) h more =
+      serving_fits (WritePeriod timer period) h (
+        executing (WritePeriod timer period) h.progress.before h.sends h.s h.o h.v h.picked h.progress.arming.executing.running,
+        h.progress.arming.known,
+      )
+  fits (WriteStopped timer) h more =
+      serving_fits (WriteStopped timer) h (executing (WriteStopped timer) h.y h.sends h.s h.o h.v h.picked h.progress.0.running, h.progress.1)
+  fits WriteNext h more = serving_fits WriteNext h tt
+  fits WriteFinished h more = serving_fits WriteFinished h tt
+  fits ReadTotal h more = serving_fits ReadTotal h tt
+  fits (WriteTotal n) h more = serving_fits (WriteTotal n) h tt
+  fits WriteStamp h more = serving_fits WriteStamp h tt
+  fits StoreCommit h more = serving_fits StoreCommit h tt
+  fits (StoreAck source count) h more =
+      releasing_fits (StoreAck source count) source.0 count h (source_known program readings words m pick.thread.0 source.0 count g h.known h.finishing)
+  fits StoreEmpty h more = releasing_fits StoreEmpty h.0 h.1 h.2 tt
+  fits Over h more = absurd (false≢true (sym more))
+
+  -- a period has 32 bits
+  period_small : Serving program words m (machine_at pick stamp b ending e ReadPeriod) → working words pick.thread.0 b (27 + 2 * number_of pick.event.origin) < 2 ^ 32
+  period_small h =
+      let j : ℕ = number_of pick.event.origin in
+      let known : j < 8 = timer_known program pick.thread.0 pick.event.origin pick.event.value g.accepted.counts.timers h.progress.3 (servable h.picked) in
+      let word : working words pick.thread.0 b (27 + 2 * j) ≡ (saved program m pick.thread.0).period j =
+      h.buffered.words (27 + 2 * j) ∙ (words-of_period h.y h.s h.o h.v j known ∙ ap (λ (z : Saved). z.period j) h.progress.0.is)
+      in
+      rw word (period_fits program readings m pick.thread.0 pick.event.origin pick.event.value g.sound h.progress.3 (servable h.picked))
 
   -- a total is at most the number of commits
   total_small : Serving program words m (machine_at pick stamp b ending e ReadTotal) → working words pick.thread.0 b (total_word ending) + 1 < 2 ^ 64
   total_small h =
       let t : ℕ = pick.thread.0 in
-      let totals : (thread_of m t).served + (thread_of m t).trapped + (thread_of m t).expired ≤ m.commits = (g.sound.threads t h.picked.known).totals in
-      let done : h.y.served ≡ (thread_of m t).served = ap (λ z. z.served) h.progress.0 in
-      let trapped : h.y.trapped ≡ (thread_of m t).trapped = ap (λ z. z.trapped) h.progress.0 in
       let total : total_of ending h.y ≤ m.commits =
-      of_ends (λ z. total_of z h.y ≤ m.commits) (whole (assignment program m pick) (saved program m t)) ending h.progress.1 (omega arith) (omega arith)
+      subst (λ z. total_of ending z ≤ m.commits) (sym h.progress.0.is)
+      (total_fits (saved program m t) (assignment program m pick) pick stamp ending m.commits (g.sound.threads t h.picked.known).totals)
       in
       let word : working words t b (total_word ending) ≡ total_of ending h.y = h.buffered.words (total_word ending) ∙ words-of_total ending h.y h.s h.o h.v in
       rw word (omega arith)
 
-  -- the registers, at any word that a phase takes as it is
-  executing : (phase : Phase) (h : Serving program words m (machine_at pick stamp b ending e phase)) (y : Saved) (o v : ℕ) →
-      Running (saved program m pick.thread.0) (assignment program m pick) pick stamp ending e y o v → FitsExecution program e
-  executing phase h y o v run = running_fits program m pick stamp ending e y o v g.accepted h.picked.known run
+  -- no more items wait and were sent than there are places
+  written_within : (s : Sending) (taken : ℕ) → Serving program words m (machine_at pick stamp b ending e (ReadWritten s taken)) →
+      let word = working words pick.thread.0 b (10 + s.pipe) in (taken ≤ word) × (word ≤ taken + (pipe_def program s.pipe).places)
+  written_within s taken h =
+      let q : ℕ = s.pipe in
+      let to = h.progress.0 in
+      let run = to.executing.running in
+      let sent = has_sent program m (machine_at pick stamp b ending e (ReadWritten s taken)) h.y h.sends h.s h.o h.v q g.sound.shape run to.pipe to.writer in
+      let pipes : length program.pipes ≤ 8 = g.accepted.counts.pipes in
+      let known : q < length program.pipes = to.pipe in
+      let word : working words pick.thread.0 b (10 + q) ≡ h.y.written q = h.buffered.words (10 + q) ∙ words-of_written h.y h.s h.o h.v q (omega arith) in
+      let written : h.y.written q ≡ (pipe_of m q).taken + length (pipe_of m q).items + sent_to q run.effects.sends = sent.written in
+      let room : sent_to q run.effects.sends ≤ get_or (rooms program m) q 0 = run.few q in
+      let at : get_or (rooms program m) q 0 ≡ (pipe_def program q).places - length (pipe_of m q).items = room_at program m q known in
+      let items : length (pipe_of m q).items ≤ (pipe_def program q).places = (g.sound.pipes q known).room in
+      let is : taken ≡ (pipe_of m q).taken = h.progress.1 in
+      (rw word (omega arith), rw word (omega arith))
 
-  fits : (phase : Phase) (word : ℕ) → KnowsAt program words m (machine_at pick stamp b ending e phase) phase → is_over phase ≡ false →
-      (phase ≡ ReadTotal → word + 1 < 2 ^ 64) → FitsTask program (machine_at pick stamp b ending e phase) word
-  fits WriteOrigin word h more small = serving_fits WriteOrigin word h (origin_fits program pick.event (picked_of program readings words m pick g.sound h.picked))
-  fits Fetch word h more small = serving_fits Fetch word h (executing Fetch h h.y h.o h.v h.progress)
-  fits (ReadState c n) word h more small =
-      serving_fits (ReadState c n) word h (executing (ReadState c n) h h.y h.o h.v h.progress.0.running, rw (← h.size) h.progress.1)
-  fits (WriteState n v) word h more small =
-      serving_fits (WriteState n v) word h (executing (WriteState n v) h h.y h.o h.v h.progress.0.running, rw (← h.size) h.progress.1)
-  fits (StoreLog n v) word h more small =
-      let t : ℕ = pick.thread.0 in
-      let log : length (saved program m t).outputs ≤ (thread_def program t).log = (g.sound.threads t h.picked.known).outputs in
-      let at : n ≡ length h.y.outputs = h.progress.1 in
-      let below : length h.y.outputs < length (saved program m t).outputs + ((thread_def program t).log - length (saved program m t).outputs) = h.progress.2 in
-      serving_fits (StoreLog n v) word h (omega arith)
-  fits (WriteCount k) word h more small = serving_fits (WriteCount k) word h (executing (WriteCount k) h h.y h.o h.v h.progress.1.running)
-  fits ReadTotal word h more small = serving_fits ReadTotal word h (small refl)
-  fits (StoreAck source count) word h more small =
-      releasing_fits (StoreAck source count) word source.0 count h (source_known program readings words m pick.thread.0 source.0 count g h.known h.finishing)
-  fits StoreEmpty word h more small = releasing_fits StoreEmpty word h.0 h.1 h.2 tt
-  fits Over word h more small = absurd (false≢true (sym more))
-  fits WriteFirst word h more small = serving_fits WriteFirst word h tt
-  fits WriteValue word h more small = serving_fits WriteValue word h tt
-  fits (ReadCount v) word h more small = serving_fits (ReadCount v) word h tt
-  fits WriteNext word h more small = serving_fits WriteNext word h tt
-  fits WriteFinished word h more small = serving_fits WriteFinished word h tt
-  fits (WriteTotal n) word h more small = serving_fits (WriteTotal n) word h tt
-  fits WriteStamp word h more small = serving_fits WriteStamp word h tt
-  fits StoreCommit word h more small = serving_fits StoreCommit word h tt
-
-  found_fits : (phase : Phase) → KnowsAt program words m (machine_at pick stamp b ending e phase) phase → is_over phase ≡ false →
-      phase ≡ ReadTotal → answer words (want program (machine_at pick stamp b ending e phase)) + 1 < 2 ^ 64
-  found_fits ReadTotal h more is = total_small h
-  found_fits WriteFirst h more is = absurd (cc)
-  found_fits WriteOrigin h more is = absurd (cc)
-  found_fits WriteValue h more is = absurd (cc)
-  found_fits Fetch h more is = absurd (cc)
-  found_fits (ReadState c n) h more is = absurd (cc)
-  found_fits (WriteState n v) h more is = absurd (cc)
-  found_fits (ReadCount v) h more is = absurd (cc)
-  found_fits (StoreLog n v) h more is = absurd (cc)
-  found_fits (WriteCount k) h more is = absurd (cc)
-  found_fits WriteNext h more is = absurd (cc)
-  found_fits WriteFinished h more is = absurd (cc)
-  found_fits (WriteTotal n) h more is = absurd (cc)
-  found_fits WriteStamp h more is = absurd (cc)
-  found_fits StoreCommit h more is = absurd (cc)
-  found_fits (StoreAck source count) h more is = absurd (cc)
-  found_fits StoreEmpty h more is = absurd (cc)
-  found_fits Over h more is = absurd (cc)
+  -- the word that each phase finds
+  found_fits : (phase : Phase) → KnowsAt program words m (machine_at pick stamp b ending e phase) phase →
+      FitsWord program phase (answer words (want program (machine_at pick stamp b ending e phase)))
+  found_fits ReadPeriod h = period_small h
+  found_fits (LoadTaken s c) h =
+      rw (taken_found program m words s.pipe c g.accepted g.private h.progress.0.pipe h.progress.1) (taken_fits s.pipe (pipe_of m s.pipe).taken h.progress.0.pipe refl)
+  found_fits (ReadWritten s taken) h = written_within s taken h
+  found_fits ReadTotal h = total_small h
+  found_fits _ h = tt
 
 pub every_task_fits : EveryTaskFits
 every_task_fits program readings words m r g few knows more = record {
-  wants = fits program readings words m r.pick r.stamp r.buffer r.ending r.execution g few r.phase 0 knows more (λ is. omega arith);
-  takes = fits program readings words m r.pick r.stamp r.buffer r.ending r.execution g few r.phase (answer words (want program r)) knows more
-      (found_fits program readings words m r.pick r.stamp r.buffer r.ending r.execution g few r.phase knows more);
+  wants = fits program readings words m r.pick r.stamp r.buffer r.ending r.execution g few r.phase knows more;
+  takes = found_fits program readings words m r.pick r.stamp r.buffer r.ending r.execution g few r.phase knows;
 }

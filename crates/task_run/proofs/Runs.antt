@@ -1,19 +1,17 @@
--- One instruction of the plain run.
-use Rattle.std.proofs.Common.{◌≡◌, ℕ, suc, ◌+◌, ◌-◌, ◌<◌, List, [], length, arith, refl, ap, ◌∙◌, sym, subst}
+-- One instruction of a run.
+use Rattle.std.proofs.Common.{◌≡◌, ℕ, suc, ◌+◌, ◌-◌, ◌<◌, ◌≤◌, List, length, get_or, arith, refl, ap, ◌∙◌, sym, subst}
 use Rattle.task_isa.specs.declared.instr.Instr.{Instr}
 use Rattle.task_isa.specs.declared.act.Act.{Act}
-use Rattle.task_isa.specs.declared.act.Act.TheVariants.{Ends}
-use Rattle.task_isa.specs.declared.outcome.Outcome.TheVariants as outcomes
+use Rattle.task_isa.specs.declared.outcome.Outcome.{Outcome}
 use Rattle.task_isa.specs.declared.outcome.TrapCode.{TrapCode}
+use Rattle.task_isa.specs.declared.sent.Sent.{Sent}
 use Rattle.task_isa.specs.Acts.{Given, Cpu, act_of}
-use Rattle.task_isa.specs.Meaning.{Config, Room, RunEnd, Ended, Trapped, Stepped, GoesOn, IsOver, HasTrapped, execute, run, instr_at}
-use Rattle.ink_layout.specs.declared.pick.Pick.{Pick}
+use Rattle.task_isa.specs.Meaning.{Effects, Config, Room, RunEnd, Ended, Trapped, Stepped, GoesOn, IsOver, HasTrapped, execute, run, task_end, instr_at, sent_to}
 use Rattle.never_cut.specs.Stands.{Saved}
 use Rattle.task_run.specs.declared.ending.Ending.{Ending}
-use Rattle.task_run.specs.declared.execution.Execution.{Execution}
 use Rattle.task_run.specs.Machine.{cpu_of, stepped}
-use Rattle.task_run.specs.Serving.{Assignment, whole, begun, with_effects, config_of, Running, IsTrap}
-use Rattle.task_run.proofs.Accesses.{Going}
+use Rattle.task_run.specs.Serving.{whole, begun, with_effects, effects_of, result, config_of, Told, RunningIn, worked_in, Finishing, IsTrap, IsEndOf}
+use Rattle.task_run.proofs.Traps.{Going, end-early}
 
 -- how a run goes on after one instruction
 abbrev pub rest_of : List Instr → Given → Room → ℕ → Config → Stepped → RunEnd
@@ -40,40 +38,57 @@ run-act code given room limit executed c act lt e =
     let more : limit - executed ≡ suc (limit - (executed + 1)) = omega arith in
     ap (λ k. run code given room k c) more ∙ run-suc code given room (limit - (executed + 1)) c act e
 
-pub going_from : (x : Saved) (a : Assignment) (pick : Pick) (stamp : ℕ) (ending : Ending) (e : Execution) (y : Saved) (o v : ℕ) →
-    (g : Running x a pick stamp ending e y o v) → (act : Act) → act_of (instr_at a.code e.at) a.given (cpu_of e) ≡ act →
-    (cpu : Cpu) (z : Saved) (outs : List ℕ) →
-    execute act a.given a.room (config_of e y g.outs) ≡ GoesOn (config_of (stepped e cpu) z outs) →
-    cpu.at < length a.code →
-    z ≡ with_effects (stamp + 1) pick.thread.0 z.state outs (begun pick x) →
-    Going x a pick stamp ending e cpu z o v
-going_from x a pick stamp ending e y o v g act is cpu z outs goes inside made = record {
-  outs = outs;
+-- the instruction at hand is this act
+abbrev pub IsAct : Told → Act → Type 0
+IsAct p act = act_of (instr_at p.a.code p.execution.at) p.a.given (cpu_of p.execution) ≡ act
+
+-- what the rest of the run is after this act
+step_from : (p : Told) (g : RunningIn p) (act : Act) → IsAct p act → (s : Stepped) → execute act p.a.given p.a.room (config_of p.execution g.effects) ≡ s →
+    rest_of p.a.code p.a.given p.a.room (p.a.limit - (p.execution.executed + 1)) (config_of p.execution g.effects) s ≡ whole p.a p.x
+step_from p g act is s does =
+    sym (run-act p.a.code p.a.given p.a.room p.a.limit p.execution.executed (config_of p.execution g.effects) act g.left is
+    ∙ ap (λ j. rest_of p.a.code p.a.given p.a.room (p.a.limit - (p.execution.executed + 1)) (config_of p.execution g.effects) j) does)
+    ∙ g.rest
+
+pub going_from : (p : Told) (g : RunningIn p) (act : Act) → IsAct p act → (cpu : Cpu) (z : Saved) (sends : List Sent) (effects : Effects) →
+    execute act p.a.given p.a.room (config_of p.execution g.effects) ≡ GoesOn (config_of (stepped p.execution cpu) effects) →
+    cpu.at < length p.a.code → z ≡ with_effects (p.stamp + 1) p.pick.thread.0 effects (begun p.pick p.x) → sends ≡ effects.sends →
+    ((q : ℕ) → sent_to q effects.sends ≤ get_or p.a.room.pipes q 0) → Going (record p { y = z; sends = sends }) cpu
+going_from p g act is cpu z sends effects goes inside made sent few = record {
+  effects = effects;
   made = made;
-  rest =
-      sym (run-act a.code a.given a.room a.limit e.executed (config_of e y g.outs) act g.left is
-      ∙ ap (λ j. rest_of a.code a.given a.room (a.limit - (e.executed + 1)) (config_of e y g.outs) j) goes)
-      ∙ g.rest;
+  sent = sent;
+  rest = step_from p g act is (GoesOn (config_of (stepped p.execution cpu) effects)) goes;
+  few = few;
   task = g.task;
   inside = inside;
-  plain = g.plain;
+  early = g.early;
+  unended = g.unended;
   origin = g.origin;
   value = g.value;
 }
 
-pub trap_from : (x : Saved) (a : Assignment) (pick : Pick) (stamp : ℕ) (ending : Ending) (e : Execution) (y : Saved) (o v : ℕ) →
-    (g : Running x a pick stamp ending e y o v) → (act : Act) → act_of (instr_at a.code e.at) a.given (cpu_of e) ≡ act →
-    (code : TrapCode) → execute act a.given a.room (config_of e y g.outs) ≡ HasTrapped code →
-    IsTrap (whole a x)
-trap_from x a pick stamp ending e y o v g act is code traps =
-    let ends : Trapped code (a.limit - (e.executed + 1)) ≡ whole a x =
-    sym (run-act a.code a.given a.room a.limit e.executed (config_of e y g.outs) act g.left is
-    ∙ ap (λ j. rest_of a.code a.given a.room (a.limit - (e.executed + 1)) (config_of e y g.outs) j) traps)
-    ∙ g.rest
-    in subst (λ z. IsTrap z) ends tt
+-- an act without an effect
+pub going_same : (p : Told) (g : RunningIn p) (act : Act) → IsAct p act → (cpu : Cpu) →
+    execute act p.a.given p.a.room (config_of p.execution g.effects) ≡ GoesOn (config_of (stepped p.execution cpu) g.effects) →
+    cpu.at < length p.a.code → Going p cpu
+going_same p g act is cpu goes inside = going_from p g act is cpu p.y p.sends g.effects goes inside g.made g.sent g.few
 
-pub end_from : (x : Saved) (a : Assignment) (pick : Pick) (stamp : ℕ) (ending : Ending) (e : Execution) (y : Saved) (o v : ℕ) →
-    (g : Running x a pick stamp ending e y o v) → act_of (instr_at a.code e.at) a.given (cpu_of e) ≡ Ends →
-    Ended outcomes.Done (record { state = y.state; sends = []; outs = g.outs; timers = [] }) (a.limit - (e.executed + 1)) ≡ whole a x
-end_from x a pick stamp ending e y o v g is =
-    sym (run-act a.code a.given a.room a.limit e.executed (config_of e y g.outs) Ends g.left is) ∙ g.rest
+pub trap_from : (p : Told) (g : RunningIn p) (act : Act) → IsAct p act → (code : TrapCode) →
+    execute act p.a.given p.a.room (config_of p.execution g.effects) ≡ HasTrapped code → IsTrap (whole p.a p.x)
+trap_from p g act is code traps = subst (λ z. IsTrap z) (step_from p g act is (HasTrapped code) traps) tt
+
+-- the run is over, and its effects are those of the whole task
+pub finish_from : (p : Told) (g : RunningIn p) (act : Act) → IsAct p act → (outcome : Outcome) (ending : Ending) →
+    execute act p.a.given p.a.room (config_of p.execution g.effects) ≡ IsOver outcome →
+    IsEndOf (Ended outcome g.effects (p.a.limit - (p.execution.executed + 1))) ending → Finishing (record p { ending = ending }) (worked_in p)
+finish_from p g act is outcome ending over ends =
+    let e : Ended outcome g.effects (p.a.limit - (p.execution.executed + 1)) ≡ whole p.a p.x = step_from p g act is (IsOver outcome) over in
+    let all : g.effects ≡ result p.a p.x = rw g.early (ap (λ w. effects_of (task_end p.a.limit p.x.state w)) e) in
+    record {
+      is = g.made ∙ ap (λ z. with_effects (p.stamp + 1) p.pick.thread.0 z (begun p.pick p.x)) all;
+      sent = g.sent ∙ ap (λ (z : Effects). z.sends) all;
+      end = end-early p.x p.a ending g.early (subst (λ w. IsEndOf w ending) e ends);
+      origin = g.origin;
+      value = g.value;
+    }

@@ -1,14 +1,27 @@
 -- Writes and reads of the words of a thread's block.
-use Rattle.std.proofs.Common.{◌≡◌, ℕ, ◌+◌, ◌-◌, ◌<◌, List, [], ◌∷◌, ◌++◌, length, get_or, set, arith, refl, ap, ◌∙◌, sym, inl, inr}
+use Rattle.std.proofs.Common.{◌≡◌, ℕ, zero, suc, ◌+◌, ◌*◌, ◌-◌, ◌<◌, List, [], ◌∷◌, ◌++◌, length, get_or, set, arith, refl, ap, ◌∙◌, sym, inl, inr}
 use Rattle.std.proofs.lemmas.Bool.{cases_eq, eq-eqb, ne_eqb}
 use Rattle.std.proofs.lemmas.List.{get_or-set_same, get_or-set_other, get_or-append-add, set-append_right}
+use Rattle.std.specs.Prelude.{Some}
 use Rattle.ink_base.specs.declared.output.Output.{Output}
 use Rattle.thread_state.specs.Pages.{put}
 use Rattle.never_cut.specs.Stands.{Saved, thread_words, next_word}
 use Rattle.task_run.specs.declared.ending.Ending.{Ending}
 use Rattle.task_run.specs.declared.ending.Ending.TheVariants as endings
 use Rattle.task_run.specs.Endings.{total_word}
-use Rattle.task_run.specs.Serving.{rested, finish, total_of, with_total}
+use Rattle.task_run.specs.Serving.{changed, with_due, rested, finish, total_of, with_total}
+
+-- what holds of each number below 8 holds of a number below 8
+pub below_eight : (P : ℕ → Type 0) → P 0 → P 1 → P 2 → P 3 → P 4 → P 5 → P 6 → P 7 → (q : ℕ) → q < 8 → P q
+below_eight P a b c d e f g h zero lt = a
+below_eight P a b c d e f g h (suc zero) lt = b
+below_eight P a b c d e f g h (suc (suc zero)) lt = c
+below_eight P a b c d e f g h (suc (suc (suc zero))) lt = d
+below_eight P a b c d e f g h (suc (suc (suc (suc zero)))) lt = e
+below_eight P a b c d e f g h (suc (suc (suc (suc (suc zero))))) lt = f
+below_eight P a b c d e f g h (suc (suc (suc (suc (suc (suc zero)))))) lt = g
+below_eight P a b c d e f g h (suc (suc (suc (suc (suc (suc (suc zero))))))) lt = h
+below_eight P a b c d e f g h (suc (suc (suc (suc (suc (suc (suc (suc q)))))))) lt = absurd (omega arith)
 
 pub put_set : (xs : List ℕ) (i v w : ℕ) → i < length xs → put (λ k. get_or xs k 0) i v w ≡ get_or (set xs i v) w 0
 put_set xs i v w lt =
@@ -40,6 +53,11 @@ pub words-rested : (y : Saved) (s o v w : ℕ) → put (λ k. get_or (thread_wor
 unfolding thread_words
 words-rested y s o v w = put_set (thread_words y s o v) 1 0 w (omega (arith, words-length y s o v))
 
+pub words-next : (y : Saved) (s o v task w : ℕ) →
+    put (λ k. get_or (thread_words y s o v) k 0) 1 (task + 1) w ≡ get_or (thread_words (record y { running = Some (record { 0 = task }) }) s o v) w 0
+unfolding thread_words
+words-next y s o v task w = put_set (thread_words y s o v) 1 (task + 1) w (omega (arith, words-length y s o v))
+
 pub words-first : (y : Saved) (s o v n w : ℕ) → put (λ k. get_or (thread_words y s o v) k 0) 2 n w ≡ get_or (thread_words (record y { first = n }) s o v) w 0
 unfolding thread_words
 words-first y s o v n w = put_set (thread_words y s o v) 2 n w (omega (arith, words-length y s o v))
@@ -69,6 +87,47 @@ pub words-outputs : (y : Saved) (s o v : ℕ) (outputs : List Output) (w : ℕ) 
 unfolding thread_words
 words-outputs y s o v outputs w = put_set (thread_words y s o v) 9 (length outputs) w (omega (arith, words-length y s o v))
 
+-- to the counts of items, and to timers and their periods
+set-written : (y : Saved) (s o v n q : ℕ) → q < 8 → set (thread_words y s o v) (10 + q) n ≡ thread_words (record y { written = changed y.written q n }) s o v
+unfolding thread_words
+set-written y s o v n =
+    below_eight (λ q. set (thread_words y s o v) (10 + q) n ≡ thread_words (record y { written = changed y.written q n }) s o v) refl refl refl refl refl refl refl refl
+
+pub words-written : (y : Saved) (s o v q n w : ℕ) → q < 8 →
+    put (λ k. get_or (thread_words y s o v) k 0) (10 + q) n w ≡ get_or (thread_words (record y { written = changed y.written q n }) s o v) w 0
+words-written y s o v q n w lt =
+    put_set (thread_words y s o v) (10 + q) n w (omega (arith, words-length y s o v)) ∙ ap (λ l. get_or l w 0) (set-written y s o v n q lt)
+
+set-taken : (y : Saved) (s o v n q : ℕ) → q < 8 → set (thread_words y s o v) (18 + q) n ≡ thread_words (record y { taken = changed y.taken q n }) s o v
+unfolding thread_words
+set-taken y s o v n =
+    below_eight (λ q. set (thread_words y s o v) (18 + q) n ≡ thread_words (record y { taken = changed y.taken q n }) s o v) refl refl refl refl refl refl refl refl
+
+pub words-taken : (y : Saved) (s o v q n w : ℕ) → q < 8 →
+    put (λ k. get_or (thread_words y s o v) k 0) (18 + q) n w ≡ get_or (thread_words (record y { taken = changed y.taken q n }) s o v) w 0
+words-taken y s o v q n w lt =
+    put_set (thread_words y s o v) (18 + q) n w (omega (arith, words-length y s o v)) ∙ ap (λ l. get_or l w 0) (set-taken y s o v n q lt)
+
+set-due : (y : Saved) (s o v n j : ℕ) → j < 8 → set (thread_words y s o v) (26 + 2 * j) n ≡ thread_words (with_due y j n) s o v
+unfolding thread_words
+set-due y s o v n =
+    below_eight (λ j. set (thread_words y s o v) (26 + 2 * j) n ≡ thread_words (with_due y j n) s o v) refl refl refl refl refl refl refl refl
+
+pub words-due : (y : Saved) (s o v j n w : ℕ) → j < 8 →
+    put (λ k. get_or (thread_words y s o v) k 0) (26 + 2 * j) n w ≡ get_or (thread_words (with_due y j n) s o v) w 0
+words-due y s o v j n w lt =
+    put_set (thread_words y s o v) (26 + 2 * j) n w (omega (arith, words-length y s o v)) ∙ ap (λ l. get_or l w 0) (set-due y s o v n j lt)
+
+set-period : (y : Saved) (s o v n j : ℕ) → j < 8 → set (thread_words y s o v) (27 + 2 * j) n ≡ thread_words (record y { period = changed y.period j n }) s o v
+unfolding thread_words
+set-period y s o v n =
+    below_eight (λ j. set (thread_words y s o v) (27 + 2 * j) n ≡ thread_words (record y { period = changed y.period j n }) s o v) refl refl refl refl refl refl refl refl
+
+pub words-period : (y : Saved) (s o v j n w : ℕ) → j < 8 →
+    put (λ k. get_or (thread_words y s o v) k 0) (27 + 2 * j) n w ≡ get_or (thread_words (record y { period = changed y.period j n }) s o v) w 0
+words-period y s o v j n w lt =
+    put_set (thread_words y s o v) (27 + 2 * j) n w (omega (arith, words-length y s o v)) ∙ ap (λ l. get_or l w 0) (set-period y s o v n j lt)
+
 -- and to the state
 pub words-state : (y : Saved) (s o v i n w : ℕ) → i < length y.state →
     put (λ k. get_or (thread_words y s o v) k 0) (48 + i) n w ≡ get_or (thread_words (record y { state = set y.state i n }) s o v) w 0
@@ -97,3 +156,19 @@ words-of_stamp y s o v = refl
 pub words-of_state : (y : Saved) (s o v i : ℕ) → get_or (thread_words y s o v) (48 + i) 0 ≡ get_or y.state i 0
 unfolding thread_words
 words-of_state y s o v i = get_or-append-add (header y s o v) y.state i 0
+
+pub words-of_written : (y : Saved) (s o v q : ℕ) → q < 8 → get_or (thread_words y s o v) (10 + q) 0 ≡ y.written q
+unfolding thread_words
+words-of_written y s o v = below_eight (λ q. get_or (thread_words y s o v) (10 + q) 0 ≡ y.written q) refl refl refl refl refl refl refl refl
+
+pub words-of_taken : (y : Saved) (s o v q : ℕ) → q < 8 → get_or (thread_words y s o v) (18 + q) 0 ≡ y.taken q
+unfolding thread_words
+words-of_taken y s o v = below_eight (λ q. get_or (thread_words y s o v) (18 + q) 0 ≡ y.taken q) refl refl refl refl refl refl refl refl
+
+pub words-of_due : (y : Saved) (s o v j : ℕ) → j < 8 → get_or (thread_words y s o v) (26 + 2 * j) 0 ≡ y.due j
+unfolding thread_words
+words-of_due y s o v = below_eight (λ j. get_or (thread_words y s o v) (26 + 2 * j) 0 ≡ y.due j) refl refl refl refl refl refl refl refl
+
+pub words-of_period : (y : Saved) (s o v j : ℕ) → j < 8 → get_or (thread_words y s o v) (27 + 2 * j) 0 ≡ y.period j
+unfolding thread_words
+words-of_period y s o v = below_eight (λ j. get_or (thread_words y s o v) (27 + 2 * j) 0 ≡ y.period j) refl refl refl refl refl refl refl refl

@@ -19,13 +19,14 @@ use Rattle.task_run.specs.declared.phase.Phase.{Phase}
 use Rattle.task_run.specs.declared.phase.Phase.TheVariants.{StoreCommit, StoreAck, StoreEmpty, Over}
 use Rattle.task_run.specs.declared.machine.TaskMachine.{TaskMachine}
 use Rattle.task_run.specs.Machine.{want, take, point, begin, is_over}
-use Rattle.task_run.specs.Fits.{FitsTask}
+use Rattle.task_run.specs.Fits.{FitsTask, FitsWord}
 use Rattle.task_run.specs.Serving.{Serving}
 
 -- from the commit to the release: an event of source i with this count is finished, and no other thread has a finished one
 pub record Releasing (program : Program) (m : Model) (pick : Pick) (stamp i count : ℕ) : Type 0 where
   pub known : pick.thread.0 < length program.threads
   pub commits : stamp + 1 ≡ m.commits
+  pub time : pick.time < 2 ^ 47
   pub position : pick.position ≡ (thread_of m pick.thread.0).released
   pub finishing : IsFinishing m pick.thread.0 i count
   pub others : (u : ℕ) → u < length program.threads → u ≢ pick.thread.0 → (thread_of m u).finished ≡ false
@@ -83,8 +84,8 @@ EveryPickBegins =
 
 -- the next access can be made, and the word that it finds taken
 pub record CanGoOn (program : Program) (words : Memory) (r : TaskMachine) : Type 0 where
-  pub wants : FitsTask program r 0
-  pub takes : FitsTask program r (answer words (want program r))
+  pub wants : FitsTask program r
+  pub takes : FitsWord program r.phase (answer words (want program r))
 
 -- as long as stamps fit their words, the registers are in the ranges that the machine asks for
 abbrev pub EveryTaskFits : Type 0

@@ -4,3 +4,4 @@ pub mod Machine
 pub mod Fits
 pub mod Serving
 pub mod Knows
+pub mod Copies

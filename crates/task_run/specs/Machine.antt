@@ -3,18 +3,20 @@ use Rattle.std.specs.Prelude.{ℕ, ◌+◌, ◌*◌, ◌/◌, ◌%◌, ◌^◌, 
 use Rattle.ink_base.specs.declared.ids.TaskId.{TaskId}
 use Rattle.ink_base.specs.declared.event.Origin.{Origin}
 use Rattle.ink_base.specs.declared.event.Origin.TheVariants as origins
-use Rattle.fram_words.specs.Places.{Code, Log, Ack, Slot, Clock, Access, Load, Store}
+use Rattle.fram_words.specs.Places.{Code, Commit, Log, Ring, Ack, Slot, Clock, Access, Load, Store}
+use Rattle.event_pipe.specs.Ring.{ring_index, has_room}
+use Rattle.persist_timer.specs.Due.{after_service, armed, is_expired}
 use Rattle.push_core.specs.Slots.{empty_word}
-use Rattle.thread_state.specs.Pages.{no_writes, is_dirty, after_copy, put_access, get_access, commit_access}
+use Rattle.thread_state.specs.Pages.{no_writes, is_dirty, after_copy, place_in, put_access, get_access, commit_access}
 use Rattle.task_isa.specs.declared.instr.Instr.{Instr}
 use Rattle.task_isa.specs.declared.instr.Instr.TheVariants as instrs
 use Rattle.task_isa.specs.declared.act.Act.{Act}
 use Rattle.task_isa.specs.declared.act.Act.TheVariants.{Sets, Goes, Loads, Saves, Puts, Sends, Arms, Stops, Continues, Ends, Traps}
 use Rattle.task_isa.specs.declared.program.Program.{Program}
-use Rattle.task_isa.specs.Acts.{Given, Cpu, act_of}
+use Rattle.task_isa.specs.Acts.{Given, Cpu, act_of, number_of}
 use Rattle.task_isa.specs.Meaning.{advance, advance_with}
 use Rattle.task_isa.specs.Code.{decoded}
-use Rattle.prog_check.specs.Lookup.{thread_def, task_def, first_task}
+use Rattle.prog_check.specs.Lookup.{thread_def, pipe_def, task_def, first_task}
 use Rattle.ink_layout.specs.declared.pick.Pick.{Pick}
 use Rattle.ink_layout.specs.declared.slot_at.SlotAt.{SlotAt}
 use Rattle.ink_layout.specs.declared.kernel_point.KernelPoint.{KernelPoint}
@@ -23,8 +25,9 @@ use Rattle.never_cut.specs.Stands.{origin_word}
 use Rattle.task_run.specs.declared.ending.Ending.{Ending}
 use Rattle.task_run.specs.declared.ending.Ending.TheVariants as endings
 use Rattle.task_run.specs.declared.execution.Execution.{Execution}
+use Rattle.task_run.specs.declared.sending.Sending.{Sending}
 use Rattle.task_run.specs.declared.phase.Phase.{Phase}
-use Rattle.task_run.specs.declared.phase.Phase.TheVariants.{WriteFirst, WriteOrigin, WriteValue, Fetch, ReadState, WriteState, ReadCount, StoreLog, WriteCount, WriteNext, WriteFinished, ReadTotal, WriteTotal, WriteStamp, StoreCommit, StoreAck, StoreEmpty, Over}
+use Rattle.task_run.specs.declared.phase.Phase.TheVariants.{WriteFirst, WriteOrigin, WriteValue, WriteTaken, ReadPeriod, WriteDue, Resume, Fetch, ReadState, WriteState, ReadCount, StoreLog, WriteCount, LoadReader, LoadTaken, ReadWritten, StoreItem, WriteWritten, WriteArmed, WritePeriod, WriteStopped, WriteNext, WriteFinished, ReadTotal, WriteTotal, WriteStamp, StoreCommit, StoreAck, StoreEmpty, Over}
 use Rattle.task_run.specs.declared.machine.TaskMachine.{TaskMachine}
 use Rattle.task_run.specs.Endings.{next_by, total_word}
 
@@ -50,16 +53,47 @@ emptying program r =
     let places = (thread_def program r.pick.thread.0).queue in
     Store (Slot r.pick.thread.0 (r.pick.position % places)) (empty_word (r.pick.position + places))
 
+-- the number of the pipe or timer that the event is of
+abbrev pub device : TaskMachine → ℕ
+device r = number_of r.pick.event.origin
+
+-- a running chain has run for more ticks than its thread allows
+abbrev pub is_overdue : Option ℕ → Option TaskId → (first time : ℕ) → Bool
+is_overdue (Some ticks) (Some task) first time = is_expired ticks first time
+is_overdue _ _ first time = false
+
+abbrev pub is_late : Program → TaskMachine → Bool
+is_late program r = is_overdue (thread_def program r.pick.thread.0).expires r.pick.running r.pick.first r.pick.time
+
+abbrev pub fetch : TaskMachine → Action
+fetch r = Make (Load (Code r.execution.task.0 r.execution.at))
+
+-- the store of an item into the ring of its pipe
+abbrev pub sending : Program → Sending → (written : ℕ) → Access
+sending program s written = Store (Ring s.pipe (ring_index (pipe_def program s.pipe).places written)) s.value
+
 abbrev pub action : Program → TaskMachine → Phase → Action
 action program r WriteFirst = Put 2 r.pick.time
 action program r WriteOrigin = Put 3 (origin_word r.pick.event.origin)
 action program r WriteValue = Put 4 r.pick.event.value
-action program r Fetch = Make (Load (Code r.execution.task.0 r.execution.at))
+action program r WriteTaken = Put (18 + device r) (r.pick.taken + 1)
+action program r ReadPeriod = Get (27 + 2 * device r)
+action program r (WriteDue word) = Put (26 + 2 * device r) word
+action program r Resume = if is_late program r then Put 1 0 else fetch r
+action program r Fetch = fetch r
 action program r (ReadState a n) = Get (48 + n)
 action program r (WriteState n v) = Put (48 + n) v
 action program r (ReadCount v) = Get 9
 action program r (StoreLog n v) = Make (Store (Log r.pick.thread.0 n) ((r.stamp + 1) * 2 ^ 32 + v))
 action program r (WriteCount n) = Put 9 n
+action program r (LoadReader s) = Make (Load (Commit (pipe_def program s.pipe).reader.0))
+action program r (LoadTaken s commit) = Make (Load (place_in (pipe_def program s.pipe).reader.0 commit (18 + s.pipe)))
+action program r (ReadWritten s taken) = Get (10 + s.pipe)
+action program r (StoreItem s written) = Make (sending program s written)
+action program r (WriteWritten s written) = Put (10 + s.pipe) (written + 1)
+action program r (WriteArmed timer delay period) = Put (26 + 2 * timer) (armed r.pick.time delay)
+action program r (WritePeriod timer period) = Put (27 + 2 * timer) period
+action program r (WriteStopped timer) = Put (26 + 2 * timer) 0
 action program r WriteNext = Put 1 (next_by r.ending)
 action program r WriteFinished = Put 5 (r.pick.position + 1)
 action program r ReadTotal = Get (total_word r.ending)
@@ -85,7 +119,7 @@ at_phase r phase = record r { phase = phase }
 -- where a pick begins: the words of the event, or at once the running chain's next task
 abbrev pub first_phase : Option TaskId → Phase
 first_phase None = WriteFirst
-first_phase (Some task) = Fetch
+first_phase (Some task) = Resume
 
 -- and where it begins again after a trap
 abbrev pub phase_again : Option TaskId → Phase
@@ -106,16 +140,16 @@ proceed program r cpu =
     then record r { execution = stepped r.execution cpu; phase = Fetch }
     else trap r
 
--- an instruction was fetched; one that sends or sets a timer ends the task, as long as such programs aren't run
+-- an instruction was fetched
 abbrev pub after_act : Program → TaskMachine → Act → TaskMachine
 after_act program r (Sets a v) = proceed program r (advance_with (cpu_of r.execution) a v)
 after_act program r (Goes offset) = proceed program r (record (cpu_of r.execution) { at = offset })
 after_act program r (Loads a n) = if nat_lt n (thread_def program r.pick.thread.0).state then at_phase r (ReadState a n) else trap r
 after_act program r (Saves n v) = if nat_lt n (thread_def program r.pick.thread.0).state then at_phase r (WriteState n v) else trap r
 after_act program r (Puts v) = at_phase r (ReadCount v)
-after_act program r (Sends pipe a v) = at_phase r WriteNext
-after_act program r (Arms timer delay period) = at_phase r WriteNext
-after_act program r (Stops timer) = at_phase r WriteNext
+after_act program r (Sends pipe a v) = at_phase r (LoadReader (record { pipe = pipe; register = a; value = v }))
+after_act program r (Arms timer delay period) = at_phase r (WriteArmed timer delay period)
+after_act program r (Stops timer) = at_phase r (WriteStopped timer)
 after_act program r (Continues task) = record r { ending = endings.Next task; phase = WriteNext }
 after_act program r Ends = at_phase r WriteNext
 after_act program r (Traps code) = trap r
@@ -132,6 +166,12 @@ after_fetch program r instr = after_act program r (act_of instr (given_by r) (cp
 abbrev pub after_event : Program → TaskMachine → Ending → TaskMachine
 after_event program r endings.Done = record r { execution = execution_of (record { 0 = first_task program r.pick.thread.0 }); phase = Fetch }
 after_event program r _ = at_phase r WriteNext
+
+-- after origin and value: an item is taken from its pipe, and a timer goes on
+abbrev pub after_value : Program → TaskMachine → Origin → TaskMachine
+after_value program r (origins.Source source count) = after_event program r r.ending
+after_value program r (origins.Pipe pipe item) = at_phase r WriteTaken
+after_value program r (origins.Timer timer deadline) = at_phase r ReadPeriod
 
 -- the end of a queue's event is written in one word more
 abbrev pub end_phase : Origin → Phase
@@ -153,17 +193,41 @@ abbrev pub after_commit : Ending → Origin → Phase
 after_commit (endings.Next task) origin = Over
 after_commit _ origin = release_phase origin
 
+-- a running chain goes on with its task, unless it has expired
+abbrev pub after_resume : Program → TaskMachine → (late : Bool) → (word : ℕ) → TaskMachine
+after_resume program r true word = record r { ending = endings.Expired; phase = end_phase r.pick.event.origin }
+after_resume program r false word = after_fetch program r (instr_of (decoded word))
+
+-- with so many items written: the item is stored where there is room, else the register says that there was none
+abbrev pub after_written : Program → TaskMachine → Sending → (taken written : ℕ) → TaskMachine
+after_written program r s taken written =
+    if has_room (pipe_def program s.pipe).places written taken
+    then at_phase r (StoreItem s written)
+    else proceed program r (advance_with (cpu_of r.execution) s.register 0)
+
 -- the registers after a phase, whose access found this word
 abbrev pub after : Program → TaskMachine → Phase → ℕ → TaskMachine
 after program r WriteFirst word = at_phase r WriteOrigin
 after program r WriteOrigin word = at_phase r WriteValue
-after program r WriteValue word = after_event program r r.ending
+after program r WriteValue word = after_value program r r.pick.event.origin
+after program r WriteTaken word = after_event program r r.ending
+after program r ReadPeriod word = at_phase r (WriteDue (after_service r.pick.due_word word))
+after program r (WriteDue w) word = after_event program r r.ending
+after program r Resume word = after_resume program r (is_late program r) word
 after program r Fetch word = after_fetch program r (instr_of (decoded word))
 after program r (ReadState a n) word = proceed program r (advance_with (cpu_of r.execution) a (word % 2 ^ 32))
 after program r (WriteState n v) word = proceed program r (advance (cpu_of r.execution))
 after program r (ReadCount v) word = if nat_lt word (thread_def program r.pick.thread.0).log then at_phase r (StoreLog word v) else trap r
 after program r (StoreLog n v) word = at_phase r (WriteCount (n + 1))
 after program r (WriteCount n) word = proceed program r (advance (cpu_of r.execution))
+after program r (LoadReader s) word = at_phase r (LoadTaken s word)
+after program r (LoadTaken s commit) word = at_phase r (ReadWritten s word)
+after program r (ReadWritten s taken) word = after_written program r s taken word
+after program r (StoreItem s written) word = at_phase r (WriteWritten s written)
+after program r (WriteWritten s written) word = proceed program r (advance_with (cpu_of r.execution) s.register 1)
+after program r (WriteArmed timer delay period) word = at_phase r (WritePeriod timer period)
+after program r (WritePeriod timer period) word = proceed program r (advance (cpu_of r.execution))
+after program r (WriteStopped timer) word = proceed program r (advance (cpu_of r.execution))
 after program r WriteNext word = at_phase r (after_next r.ending r.pick.event.origin)
 after program r WriteFinished word = at_phase r ReadTotal
 after program r ReadTotal word = at_phase r (WriteTotal (word + 1))

@@ -140,7 +140,7 @@ fn copy_of(mask: u64, page: u32) -> u32
 }
 
 // The address of a word of a block in the copies that a mask names.
-fn word_in(first: Addr, mask: u64, word: u32) -> Addr
+pub(crate) fn word_in(first: Addr, mask: u64, word: u32) -> Addr
     requires few { word < 304 }
     requires room { first + 16 * (word / 8 + 1) ≤ 2 ^ 32 }
     ensures { result ≡ first + 16 * (word / 8) + 8 * bit_at mask (word / 8) + word % 8 }

@@ -7,13 +7,13 @@ use crate::ending::Ending;
 use crate::phase::Phase;
 use ink_base::{Origin, TaskId};
 
-// Where a pick begins: the words of the event, or at once the running chain's next task.
+// Where a pick begins: the words of the event, or at once the running chain, which goes on with its task unless it has expired.
 pub(crate) fn first_phase(running: Option<TaskId>) -> Phase
     ensures { result ≡ machine.first_phase running }
 {
     match running {
         None => Phase::WriteFirst,
-        Some(_) => Phase::Fetch,
+        Some(_) => Phase::Resume,
     }
 }
 
@@ -31,10 +31,19 @@ pub(crate) fn phase_again(running: Option<TaskId>) -> Phase
 pub(crate) fn after_next(ending: Ending, origin: Origin) -> Phase
     ensures { result ≡ machine.after_next ending origin }
 {
-    match (ending, origin) {
-        (Ending::Next { .. }, _) => Phase::WriteStamp,
-        (_, Origin::Source { .. }) => Phase::WriteFinished,
-        _ => Phase::ReadTotal,
+    match ending {
+        Ending::Next { .. } => Phase::WriteStamp,
+        _ => end_phase(origin),
+    }
+}
+
+// Where the service is over: the end of a queue's event is written in one word more.
+pub(crate) fn end_phase(origin: Origin) -> Phase
+    ensures { result ≡ machine.end_phase origin }
+{
+    match origin {
+        Origin::Source { .. } => Phase::WriteFinished,
+        Origin::Pipe { .. } | Origin::Timer { .. } => Phase::ReadTotal,
     }
 }
 

@@ -1,6 +1,7 @@
 //! The service of one pick of a scan, an access at a time: the event's words, a task, its end, the commit, and the release of the event.
 #![tactic(auto)]
 
+mod acting;
 mod buffer;
 mod code;
 mod copying;
@@ -9,9 +10,14 @@ mod execution;
 mod following;
 mod laws;
 mod machine;
+mod page_of;
 mod parts;
 mod phase;
+mod pipe_at;
+mod sending;
 mod steps;
+#[cfg(test)]
+mod test_board;
 #[cfg(test)]
 mod tests;
 mod want;
@@ -23,3 +29,4 @@ pub use execution::Execution;
 pub use laws::tasks_commit;
 pub use machine::TaskMachine;
 pub use phase::Phase;
+pub use sending::Sending;

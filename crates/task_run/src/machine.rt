@@ -3,7 +3,7 @@
 ghost use Rattle.std.specs.Prelude.{◌≡◌};
 ghost use Rattle.ink_layout.specs.Addresses.{at_layout};
 ghost use Rattle.task_run.specs.Machine as machine;
-ghost use Rattle.task_run.specs.Fits.{FitsTask};
+ghost use Rattle.task_run.specs.Fits.{FitsTask, FitsWord};
 
 use crate::buffer::Buffer;
 use crate::ending::Ending;
@@ -50,7 +50,7 @@ impl TaskMachine {
 
     /// The next access, to an address of the plan's layout.
     pub fn want(&self, plan: &Plan) -> Access
-        requires { FitsTask plan.now.accepted self.now 0 }
+        requires { FitsTask plan.now.accepted self.now }
         ensures { result ≡ at_layout plan.now.layout (machine.want plan.now.accepted self.now) }
     {
         self.access(plan.program(), &plan.layout)
@@ -58,7 +58,8 @@ impl TaskMachine {
 
     /// Takes the word that the wanted access found, goes on to the next access, and answers what the access means to the never-cut kernel.
     pub fn take(&mut self, plan: &Plan, word: u64) -> KernelPoint
-        requires { FitsTask plan.now.accepted self.old word }
+        requires fits { FitsTask plan.now.accepted self.old }
+        requires word { FitsWord plan.now.accepted self.old.phase word }
         ensures registers { self.new ≡ machine.take plan.now.accepted self.old word }
         ensures point { result ≡ machine.point self.old }
     {
@@ -69,7 +70,7 @@ impl TaskMachine {
 
     /// The queue and the position of the event that the wanted access acknowledges or releases; none exactly where it is another access.
     pub fn slot_wanted(&self, plan: &Plan) -> Option<SlotAt>
-        requires { FitsTask plan.now.accepted self.now 0 }
+        requires { FitsTask plan.now.accepted self.now }
         ensures { result ≡ machine.slot_at self.now self.now.phase }
     {
         let _plan = plan;

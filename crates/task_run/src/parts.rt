@@ -3,12 +3,15 @@
 ghost use Rattle.std.specs.Prelude.{◌≡◌, ◌==◌, ◌%◌, ◌<◌, ◌^◌, length};
 ghost use Rattle.std.specs.List.{position};
 ghost use Rattle.prog_check.specs.Accepted.{IsAccepted};
+ghost use Rattle.task_isa.specs.Acts as acts;
 ghost use Rattle.task_isa.specs.Code.{decoded};
 ghost use Rattle.task_isa.specs.declared.program.Task.{Task};
 ghost use Rattle.prog_check.specs.Lookup as lookup;
 ghost use Rattle.task_run.specs.Machine as machine;
+ghost use Rattle.task_run.specs.Fits.{FitsChain};
 
-use ink_base::{TaskId, ThreadId};
+use ink_base::{Origin, TaskId, ThreadId};
+use persist_timer::is_expired;
 use task_isa::{Instr, Program, Task, decode};
 
 // The place of the first task of a thread.
@@ -37,7 +40,35 @@ pub(crate) fn state_of(program: &Program, thread: ThreadId) -> u32
     program.threads.as_slice()[thread.0 as usize].state as u32
 }
 
+// The number of the source, pipe or timer that an event is of.
+pub(crate) fn number_of(origin: Origin) -> u32
+    ensures { result ≡ acts.number_of origin }
+{
+    match origin {
+        Origin::Source { source, .. } => source.0 as u32,
+        Origin::Pipe { pipe, .. } => pipe.0 as u32,
+        Origin::Timer { timer, .. } => timer.0 as u32,
+    }
+}
+
+// A running chain has run, at a time, for more ticks than its thread allows.
+pub(crate) fn is_overdue(
+    expires: Option<u32>,
+    running: Option<TaskId>,
+    first: u64,
+    time: u64,
+) -> bool
+    requires { FitsChain expires running first time }
+    ensures { result ≡ machine.is_overdue expires running first time }
+{
+    match (expires, running) {
+        (Some(ticks), Some(_)) => is_expired(ticks, first, time),
+        _ => false,
+    }
+}
+
 // The instruction of a code word.
+#[inline(always)]
 pub(crate) fn instr_of(word: u64) -> Instr
     ensures { result ≡ machine.instr_of (decoded word) }
 {

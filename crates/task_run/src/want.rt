@@ -5,15 +5,20 @@ ghost use Rattle.fram_words.specs.Places as places;
 ghost use Rattle.prog_check.specs.Accepted.{IsAccepted};
 ghost use Rattle.prog_check.specs.Lookup.{thread_def};
 ghost use Rattle.ink_layout.specs.Addresses.{at_layout, FitsLayout};
+ghost use Rattle.ink_layout.specs.Layouts.{IsLayout};
 ghost use Rattle.never_cut.specs.Stands as stands;
 ghost use Rattle.thread_state.specs.Pages as pages;
 ghost use Rattle.task_run.specs.Machine as machine;
-ghost use Rattle.task_run.specs.Fits.{FitsExecution, FitsOrigin, FitsTask};
+ghost use Rattle.task_run.specs.declared.phase.Phase.TheVariants as phases;
+ghost use Rattle.task_run.specs.Fits.{FitsChain, FitsExecution, FitsOrigin, FitsTask};
 
 use crate::machine::TaskMachine;
+use crate::parts::{is_overdue, number_of};
 use crate::phase::Phase;
+use crate::pipe_at::{item_at, reader_at, taken_at};
 use fram_words::{Access, Layout};
 use ink_base::Origin;
+use persist_timer::armed;
 use push_core::empty;
 use task_isa::Program;
 
@@ -22,13 +27,18 @@ impl TaskMachine {
     pub(crate) fn access(&self, program: &Program, layout: &Layout) -> Access
         requires accepted { IsAccepted program.now }
         requires layout { FitsLayout program.now layout.now }
-        requires fits { FitsTask program.now self.now 0 }
+        requires placed { IsLayout program.now layout.now }
+        requires fits { FitsTask program.now self.now }
         ensures { result ≡ at_layout layout.now (machine.want program.now self.now) }
     {
         match self.phase {
             Phase::WriteFirst => self.put(program, layout, 2, self.pick.time),
             Phase::WriteOrigin => self.put(program, layout, 3, origin_word(self.pick.event.origin)),
             Phase::WriteValue => self.put(program, layout, 4, self.pick.event.value as u64),
+            Phase::WriteTaken => self.put(program, layout, 18 + self.device(), self.pick.taken + 1),
+            Phase::ReadPeriod => self.get(program, layout, 27 + 2 * self.device()),
+            Phase::WriteDue { word } => self.put(program, layout, 26 + 2 * self.device(), word),
+            Phase::Resume => self.resume(program, layout),
             Phase::Fetch => self.fetch(program, layout),
             Phase::ReadState { index, .. } => self.get(program, layout, 48 + index),
             Phase::WriteState { index, value } => self.put(
@@ -40,6 +50,35 @@ impl TaskMachine {
             Phase::ReadCount { .. } => self.get(program, layout, 9),
             Phase::StoreLog { index, value } => self.output(program, layout, index, value),
             Phase::WriteCount { count } => self.put(program, layout, 9, count as u64),
+            Phase::LoadReader { sending } => Access::Load(reader_at(program, layout, sending.pipe)),
+            Phase::LoadTaken {
+                sending,
+                commit_word,
+            } => Access::Load(taken_at(program, layout, sending.pipe, commit_word)),
+            Phase::ReadWritten { sending, .. } => self.get(program, layout, 10 + sending.pipe),
+            Phase::StoreItem { sending, written } => Access::Store(
+                item_at(program, layout, sending.pipe, written),
+                sending.value as u64,
+            ),
+            Phase::WriteWritten { sending, written } => self.put(
+                program,
+                layout,
+                10 + sending.pipe,
+                written + 1,
+            ),
+            Phase::WriteArmed { timer, delay, .. } => self.put(
+                program,
+                layout,
+                26 + 2 * timer,
+                armed(self.pick.time, delay),
+            ),
+            Phase::WritePeriod { timer, period } => self.put(
+                program,
+                layout,
+                27 + 2 * timer,
+                period as u64,
+            ),
+            Phase::WriteStopped { timer } => self.put(program, layout, 26 + 2 * timer, 0),
             Phase::WriteNext => self.put(program, layout, 1, self.ending.next_word()),
             Phase::WriteFinished => self.put(program, layout, 5, self.pick.position as u64 + 1),
             Phase::ReadTotal => self.get(program, layout, self.ending.total_word()),
@@ -81,6 +120,43 @@ impl TaskMachine {
         self.buffer.get(layout, self.pick.thread, word)
     }
 
+    // The first access of a running chain: a write where it has expired, else the load of its task's first code word.
+    fn resume(&self, program: &Program, layout: &Layout) -> Access
+        requires accepted { IsAccepted program.now }
+        requires layout { FitsLayout program.now layout.now }
+        requires known { self.now.pick.thread.0 < length program.now.threads }
+        requires fits { FitsExecution program.now self.now.execution }
+        requires chain { FitsChain (thread_def program.now self.now.pick.thread.0).expires self.now.pick.running self.now.pick.first self.now.pick.time }
+        ensures { result ≡ at_layout layout.now (machine.access_of self.now (machine.action program.now self.now phases.Resume)) }
+    {
+        if self.is_late(program) {
+            self.put(program, layout, 1, 0)
+        } else {
+            self.fetch(program, layout)
+        }
+    }
+
+    // The number of the pipe or timer that the event is of.
+    pub(crate) fn device(&self) -> u32
+        ensures { result ≡ machine.device self.now }
+    {
+        number_of(self.pick.event.origin)
+    }
+
+    // A running chain has run for more ticks than its thread allows.
+    pub(crate) fn is_late(&self, program: &Program) -> bool
+        requires known { self.now.pick.thread.0 < length program.now.threads }
+        requires chain { FitsChain (thread_def program.now self.now.pick.thread.0).expires self.now.pick.running self.now.pick.first self.now.pick.time }
+        ensures { result ≡ machine.is_late program.now self.now }
+    {
+        is_overdue(
+            program.threads.as_slice()[self.pick.thread.0 as usize].expires,
+            self.pick.running,
+            self.pick.first,
+            self.pick.time,
+        )
+    }
+
     // The load of the next instruction's code word.
     fn fetch(&self, program: &Program, layout: &Layout) -> Access
         requires layout { FitsLayout program.now layout.now }
@@ -118,7 +194,7 @@ impl TaskMachine {
     fn emptying(&self, program: &Program, layout: &Layout) -> Access
         requires accepted { IsAccepted program.now }
         requires layout { FitsLayout program.now layout.now }
-        requires fits { FitsTask program.now self.now 0 }
+        requires fits { FitsTask program.now self.now }
         ensures { result ≡ at_layout layout.now (machine.emptying program.now self.now) }
     {
         let thread = self.pick.thread.0 as usize;

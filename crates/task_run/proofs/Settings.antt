@@ -1,0 +1,106 @@
+-- The accesses that arm and stop a timer.
+use Rattle.std.proofs.Common.{◌≡◌, ℕ, ◌+◌, ◌*◌, ◌/◌, ◌<◌, ◌≤◌, List, [], ◌∷◌, ◌++◌, length, arith, refl, ap, ◌∙◌, sym}
+use Rattle.std.specs.Prelude.{Some, None}
+use Rattle.fram_words.specs.Places.{Memory, store, perform}
+use Rattle.thread_state.specs.Pages.{place_in, working_mask, Buffer}
+use Rattle.thread_state.proofs.Pages.{is_dirty-true}
+use Rattle.task_isa.specs.declared.act.Act.TheVariants.{Arms, Stops}
+use Rattle.task_isa.specs.declared.program.Program.{Program}
+use Rattle.task_isa.specs.declared.timer_set.TimerSet.{TimerSet}
+use Rattle.task_isa.specs.Acts.{Cpu}
+use Rattle.task_isa.specs.Meaning.{Effects, advance}
+use Rattle.prog_check.specs.Accepted.{IsAccepted}
+use Rattle.ink_layout.specs.declared.pick.Pick.{Pick}
+use Rattle.never_cut.specs.declared.model.Model.{Model}
+use Rattle.never_cut.specs.Sound.{HasShape}
+use Rattle.never_cut.specs.Stands.{Saved, StandsPrivate, due_word}
+use Rattle.task_run.specs.declared.ending.Ending.{Ending}
+use Rattle.task_run.specs.declared.execution.Execution.{Execution}
+use Rattle.task_run.specs.declared.phase.Phase.TheVariants.{WriteArmed, WritePeriod, WriteStopped}
+use Rattle.task_run.specs.declared.machine.TaskMachine.{TaskMachine}
+use Rattle.task_run.specs.Machine.{want, proceed, cpu_of}
+use Rattle.task_run.specs.Serving.{changed, due_with, period_by, period_with, with_due, with_effects, begun, Told, told, Serving}
+use Rattle.task_run.proofs.Accesses.{machine_at, Steps, put_step, holding_put, serving_at}
+use Rattle.task_run.proofs.Traps.{proceed_serving}
+use Rattle.persist_timer.specs.Due.{armed}
+use Rattle.task_run.proofs.Words.{words-due, words-period}
+use Rattle.task_run.proofs.Runs.{going_from}
+
+-- one more setting
+pub due_with-more : (settings : List TimerSet) (s : TimerSet) (f : ℕ → ℕ) → due_with (settings ++ s ∷ []) f ≡ changed (due_with settings f) s.timer.0 (due_word s.due)
+due_with-more [] s f = refl
+due_with-more (x ∷ settings) s f = due_with-more settings s (changed f x.timer.0 (due_word x.due))
+
+pub period_with-more : (settings : List TimerSet) (s : TimerSet) (f : ℕ → ℕ) → period_with (settings ++ s ∷ []) f ≡ period_by s (period_with settings f)
+period_with-more [] s f = refl
+period_with-more (x ∷ settings) s f = period_with-more settings s (period_by x f)
+
+-- the thread with one more setting
+set_made : (stamp t : ℕ) (effects : Effects) (s : TimerSet) (x y : Saved) → y ≡ with_effects stamp t effects x →
+    record y { due = changed y.due s.timer.0 (due_word s.due); period = period_by s y.period } ≡ with_effects stamp t (record effects { timers = effects.timers ++ s ∷ [] }) x
+set_made stamp t effects s x y made =
+    let z : Saved = with_effects stamp t effects x in
+    ap (λ (c : Saved). record c { due = changed c.due s.timer.0 (due_word s.due); period = period_by s c.period }) made
+    ∙ ap (λ f. record z { due = f; period = period_by s z.period }) (sym (due_with-more effects.timers s x.due))
+    ∙ ap (λ f. record z { due = due_with (effects.timers ++ s ∷ []) x.due; period = f }) (sym (period_with-more effects.timers s x.period))
+
+module _ (program : Program) (m : Model) (words : Memory) (pick : Pick) (stamp : ℕ) (b : Buffer) (ending : Ending) (e : Execution) (accepted : IsAccepted program) where
+  pub step-write_armed : (timer delay period : ℕ) → Serving program words m (machine_at pick stamp b ending e (WriteArmed timer delay period)) →
+      Steps program m words (machine_at pick stamp b ending e (WriteArmed timer delay period))
+  step-write_armed timer delay period h =
+      let r : TaskMachine = machine_at pick stamp b ending e (WriteArmed timer delay period) in
+      let y : Saved = with_due h.y timer (armed pick.time delay) in
+      let few : length program.timers ≤ 8 = accepted.counts.timers in
+      let known : timer < length program.timers = h.progress.known in
+      put_step program m words r (26 + 2 * timer) (armed pick.time delay) (machine_at pick stamp b ending e (WritePeriod timer period)) h (λ c. refl) λ dirty fresh.
+      serving_at program m (store words (place_in pick.thread.0 (working_mask b) (26 + 2 * timer)) (armed pick.time delay)) r e (WritePeriod timer period) y h.sends h.s h.o h.v
+      (holding_put program m words r (26 + 2 * timer) (armed pick.time delay) y h.sends h.s h.o h.v h dirty fresh
+      (λ k. words-due h.y h.s h.o h.v timer (armed pick.time delay) k (omega arith)) h.logged h.sent h.size)
+      (record { before = h.y; delay = delay; arming = h.progress; is = refl })
+
+  pub step-write_period : (timer period : ℕ) → StandsPrivate (perform words (want program (machine_at pick stamp b ending e (WritePeriod timer period)))) program m → HasShape program m →
+      Serving program words m (machine_at pick stamp b ending e (WritePeriod timer period)) → Steps program m words (machine_at pick stamp b ending e (WritePeriod timer period))
+  step-write_period timer period stands shape h =
+      let r : TaskMachine = machine_at pick stamp b ending e (WritePeriod timer period) in
+      let half = h.progress in
+      let arming = half.arming in
+      let g = arming.executing.running in
+      let s : TimerSet = record { timer = record { 0 = timer }; due = Some (pick.time + half.delay); period = period } in
+      let y : Saved = record (h.y) { period = changed h.y.period timer period } in
+      let is : y ≡ record (half.before) { due = changed half.before.due timer (pick.time + half.delay + 1); period = changed half.before.period timer period } =
+      ap (λ (c : Saved). record c { period = changed c.period timer period }) half.is
+      in
+      let p : Told = told program m r half.before h.sends h.s h.o h.v in
+      let effects : Effects = record (g.effects) { timers = g.effects.timers ++ s ∷ [] } in
+      let few : length program.timers ≤ 8 = accepted.counts.timers in
+      let known : timer < length program.timers = arming.known in
+      let next : Cpu = advance (cpu_of e) in
+      put_step program m words r (27 + 2 * timer) period (proceed program r next) h (λ c. refl) λ dirty fresh.
+      let n : Memory = store words (place_in pick.thread.0 (working_mask b) (27 + 2 * timer)) period in
+      let stands' : StandsPrivate n program m = rw (is_dirty-true b ((27 + 2 * timer) / 8) dirty) at stands in
+      proceed_serving program m n r next y h.sends h.s h.o h.v stands' shape
+      (holding_put program m words r (27 + 2 * timer) period y h.sends h.s h.o h.v h dirty fresh
+      (λ k. words-period h.y h.s h.o h.v timer period k (omega arith)) h.logged h.sent h.size)
+      (going_from p g (Arms timer half.delay period) arming.executing.is_act next y h.sends effects refl arming.executing.goes_on
+      (is ∙ set_made (stamp + 1) pick.thread.0 g.effects s (begun pick p.x) half.before g.made) g.sent g.few)
+
+  pub step-write_stopped : (timer : ℕ) → StandsPrivate (perform words (want program (machine_at pick stamp b ending e (WriteStopped timer)))) program m → HasShape program m →
+      Serving program words m (machine_at pick stamp b ending e (WriteStopped timer)) → Steps program m words (machine_at pick stamp b ending e (WriteStopped timer))
+  step-write_stopped timer stands shape h =
+      let r : TaskMachine = machine_at pick stamp b ending e (WriteStopped timer) in
+      let g = h.progress.0.running in
+      let s : TimerSet = record { timer = record { 0 = timer }; due = None; period = 0 } in
+      let y : Saved = with_due h.y timer 0 in
+      let p : Told = told program m r h.y h.sends h.s h.o h.v in
+      let effects : Effects = record (g.effects) { timers = g.effects.timers ++ s ∷ [] } in
+      let few : length program.timers ≤ 8 = accepted.counts.timers in
+      let known : timer < length program.timers = h.progress.1 in
+      let next : Cpu = advance (cpu_of e) in
+      put_step program m words r (26 + 2 * timer) 0 (proceed program r next) h (λ c. refl) λ dirty fresh.
+      let n : Memory = store words (place_in pick.thread.0 (working_mask b) (26 + 2 * timer)) 0 in
+      let stands' : StandsPrivate n program m = rw (is_dirty-true b ((26 + 2 * timer) / 8) dirty) at stands in
+      proceed_serving program m n r next y h.sends h.s h.o h.v stands' shape
+      (holding_put program m words r (26 + 2 * timer) 0 y h.sends h.s h.o h.v h dirty fresh
+      (λ k. words-due h.y h.s h.o h.v timer 0 k (omega arith)) h.logged h.sent h.size)
+      (going_from p g (Stops timer) h.progress.0.is_act next y h.sends effects refl h.progress.0.goes_on
+      (set_made (stamp + 1) pick.thread.0 g.effects s (begun pick p.x) h.y g.made) g.sent g.few)

@@ -1,0 +1,56 @@
+//! Which page an access of a task copies a word of.
+
+ghost use Rattle.std.specs.Prelude.{◌≡◌, ◌<◌};
+ghost use Rattle.std.specs.Option.{ForSome};
+ghost use Rattle.prog_check.specs.Accepted.{IsAccepted};
+ghost use Rattle.task_run.specs.Machine as machine;
+ghost use Rattle.task_run.specs.Copies as copies;
+ghost use Rattle.task_run.specs.Fits.{FitsTask};
+
+use crate::machine::TaskMachine;
+use crate::phase::Phase;
+use task_isa::Program;
+
+impl TaskMachine {
+    // The page that the access copies a word of; none exactly where it is no access of a copying.
+    pub(crate) fn page_copied(&self, program: &Program) -> Option<u32>
+        requires accepted { IsAccepted program.now }
+        requires fits { FitsTask program.now self.now }
+        ensures page { result ≡ copies.page_copied self.now.buffer (machine.action program.now self.now self.now.phase) }
+        ensures few { ForSome result (λ page. page < 64) }
+    {
+        match self.page_written(program) {
+            Some(page) if !self.buffer.is_dirty(page) => Some(page),
+            _ => None,
+        }
+    }
+
+    // The page that the phase writes to; none exactly where it isn't a write.
+    fn page_written(&self, program: &Program) -> Option<u32>
+        requires accepted { IsAccepted program.now }
+        requires fits { FitsTask program.now self.now }
+        ensures page { result ≡ copies.page_written (machine.action program.now self.now self.now.phase) }
+        ensures few { ForSome result (λ page. page < 38) }
+    {
+        match self.phase {
+            Phase::WriteFirst
+            | Phase::WriteOrigin
+            | Phase::WriteValue
+            | Phase::WriteNext
+            | Phase::WriteFinished
+            | Phase::WriteStamp => Some(0),
+            Phase::WriteTaken => Some((18 + self.device()) / 8),
+            Phase::WriteDue { .. } => Some((26 + 2 * self.device()) / 8),
+            Phase::Resume if self.is_late(program) => Some(0),
+            Phase::WriteState { index, .. } => Some((48 + index) / 8),
+            Phase::WriteCount { .. } => Some(1),
+            Phase::WriteWritten { sending, .. } => Some((10 + sending.pipe) / 8),
+            Phase::WriteArmed { timer, .. } | Phase::WriteStopped { timer } => Some(
+                (26 + 2 * timer) / 8,
+            ),
+            Phase::WritePeriod { timer, .. } => Some((27 + 2 * timer) / 8),
+            Phase::WriteTotal { .. } => Some(self.ending.total_word() / 8),
+            _ => None,
+        }
+    }
+}

@@ -1,0 +1,221 @@
+//! A board on which tests let a task run.
+
+ghost use Rattle.std.specs.Prelude.{◌≡◌, IsTrue};
+ghost use Rattle.prog_check.specs.Lookup.{thread_def};
+ghost use Rattle.task_run.specs.Fits.{FitsChain, FitsExecution, FitsOrigin, FitsPhase, FitsSending, FitsSetting, FitsTask, FitsWord};
+
+use crate::buffer::word_in;
+use crate::execution::Execution;
+use crate::machine::TaskMachine;
+use crate::phase::Phase;
+use crate::sending::Sending;
+use fram_words::{Access, Fram};
+use ink_base::{Addr, Origin, TaskId};
+use ink_layout::{KernelPoint, Plan};
+use task_isa::{Program, ThreadDef};
+
+// The access of an instruction can be made.
+fn is_executing(program: &Program, x: &Execution) -> bool
+    ensures { IsTrue result → FitsExecution program.now x.now }
+{
+    match program.tasks.as_slice().get(x.task.0 as usize) {
+        Some(task) => (x.at as usize) < task.code.len()
+            && x.at < 4096
+            && x.executed < 4096
+            && x.executed < task.limit as u32,
+        None => false,
+    }
+}
+
+// The origin's numbers fit their bits.
+fn is_origin(origin: Origin) -> bool
+    ensures { IsTrue result → FitsOrigin origin }
+{
+    match origin {
+        Origin::Source { .. } | Origin::Pipe { .. } => true,
+        Origin::Timer { deadline, .. } => deadline < 1 << 48,
+    }
+}
+
+// A chain that goes on began at or before the scan.
+fn is_chain(expires: Option<u32>, running: Option<TaskId>, first: u64, time: u64) -> bool
+    ensures { IsTrue result → FitsChain expires running first time }
+{
+    match (expires, running) {
+        (Some(_), Some(_)) => first <= time,
+        _ => true,
+    }
+}
+
+// An instruction is executed that sends to a pipe of the program.
+fn is_sending(program: &Program, x: &Execution, sending: Sending) -> bool
+    ensures { IsTrue result → FitsSending program.now x.now sending }
+{
+    is_executing(program, x) && (sending.pipe as usize) < program.pipes.len()
+}
+
+// An instruction is executed that sets a timer of the program.
+fn is_setting(program: &Program, x: &Execution, timer: u32) -> bool
+    ensures { IsTrue result → FitsSetting program.now x.now timer }
+{
+    is_executing(program, x) && (timer as usize) < program.timers.len()
+}
+
+// The numbers of the phase are in their ranges.
+fn is_phase(program: &Program, machine: &TaskMachine, def: &ThreadDef) -> bool
+    requires { def.now ≡ thread_def program.now machine.now.pick.thread.0 }
+    ensures { IsTrue result → FitsPhase program.now machine.now machine.now.phase }
+{
+    let pick = &machine.pick;
+    let x = &machine.execution;
+    match machine.phase {
+        Phase::WriteOrigin => is_origin(pick.event.origin),
+        Phase::WriteTaken => machine.device() < 8 && pick.taken < 1 << 32,
+        Phase::ReadPeriod => machine.device() < 8 && 1 <= pick.due_word && pick.due_word <= 1 << 48,
+        Phase::WriteDue { .. } => machine.device() < 8,
+        Phase::Resume => {
+            is_executing(program, x) && is_chain(def.expires, pick.running, pick.first, pick.time)
+        }
+        Phase::Fetch | Phase::WriteCount { .. } => is_executing(program, x),
+        Phase::ReadState { index, .. } | Phase::WriteState { index, .. } => {
+            is_executing(program, x) && index < def.state as u32
+        }
+        Phase::StoreLog { index, .. } => index < def.log as u32,
+        Phase::LoadReader { sending } | Phase::LoadTaken { sending, .. } => {
+            is_sending(program, x, sending)
+        }
+        Phase::ReadWritten { sending, taken } => {
+            is_sending(program, x, sending) && taken < 1 << 32
+        }
+        Phase::StoreItem { sending, written } | Phase::WriteWritten { sending, written } => {
+            is_sending(program, x, sending) && written < 1 << 33
+        }
+        Phase::WriteArmed { timer, .. }
+        | Phase::WritePeriod { timer, .. }
+        | Phase::WriteStopped { timer } => is_setting(program, x, timer),
+        Phase::StoreAck { source, .. } => (source.0 as usize) < program.sources.len(),
+        Phase::Over => false,
+        _ => true,
+    }
+}
+
+// The machine's next access can be made.
+fn can_want(program: &Program, machine: &TaskMachine) -> bool
+    ensures { IsTrue result → FitsTask program.now machine.now }
+{
+    match program
+        .threads
+        .as_slice()
+        .get(machine.pick.thread.0 as usize)
+    {
+        Some(def) => def.queue <= 32
+            && machine.pick.position < 1000
+            && machine.pick.time < 1000
+            && machine.stamp < 1000
+            && is_phase(program, machine, def),
+        None => false,
+    }
+}
+
+// This word can be taken.
+fn can_take(program: &Program, phase: Phase, word: u64) -> bool
+    ensures { IsTrue result → FitsWord program.now phase word }
+{
+    match phase {
+        Phase::ReadPeriod | Phase::LoadTaken { .. } => word < 1 << 32,
+        Phase::ReadWritten { sending, taken } => {
+            match program.pipes.as_slice().get(sending.pipe as usize) {
+                Some(pipe) => taken < 1000 && taken <= word && word <= taken + pipe.places as u64,
+                None => false,
+            }
+        }
+        Phase::ReadTotal => word < u64::MAX,
+        _ => true,
+    }
+}
+
+// Makes an access that lies on the board, and answers the word that it found.
+fn made(fram: &mut Fram, access: Access) -> Option<u64> {
+    match access {
+        Access::Load(addr) if addr < fram.len() => Some(fram.perform(Access::Load(addr))),
+        Access::Store(addr, word) if addr < fram.len() => Some(fram.perform(Access::Store(
+            addr, word,
+        ))),
+        _ => None,
+    }
+}
+
+// One access of the machine, and what it means; none where it can't be made.
+fn step(plan: &Plan, fram: &mut Fram, machine: &mut TaskMachine) -> Option<KernelPoint> {
+    if !can_want(plan.program(), machine) {
+        return None;
+    }
+    let word = made(fram, machine.want(plan))?;
+    if can_take(plan.program(), machine.phase, word) {
+        Some(machine.take(plan, word))
+    } else {
+        None
+    }
+}
+
+// The numbers of the first accesses that commit and that release, counted from 1; 0 for none.
+pub(crate) fn numbers(plan: &Plan, fram: &mut Fram, mut machine: TaskMachine) -> (u32, u32) {
+    let mut committed = 0;
+    for n in 1..200 {
+        match step(plan, fram, &mut machine) {
+            Some(KernelPoint::Commit(_)) => committed = n,
+            Some(KernelPoint::Release(_)) => return (committed, n),
+            Some(_) => {}
+            None => return (committed, 0),
+        }
+    }
+    (committed, 0)
+}
+
+// The word at an address; none exactly where it isn't on the board.
+fn word_at(fram: &Fram, addr: Addr) -> Option<u64> {
+    if addr < fram.len() {
+        Some(fram.word(addr))
+    } else {
+        None
+    }
+}
+
+// A word of the committed copy of a thread's header.
+fn header(plan: &Plan, fram: &Fram, thread: usize, word: u32) -> Option<u64> {
+    let place = plan.layout.threads.as_slice().get(thread)?;
+    let mask = word_at(fram, place.commit)?;
+    if word < 48 && place.first < 100000 {
+        word_at(fram, word_in(place.first, mask, word))
+    } else {
+        None
+    }
+}
+
+// Four of them.
+pub(crate) fn headers(
+    plan: &Plan,
+    fram: &Fram,
+    thread: usize,
+    words: [u32; 4],
+) -> Option<[u64; 4]> {
+    let [a, b, c, d] = words;
+    Some([
+        header(plan, fram, thread, a)?,
+        header(plan, fram, thread, b)?,
+        header(plan, fram, thread, c)?,
+        header(plan, fram, thread, d)?,
+    ])
+}
+
+// The words of the first two outputs of a thread.
+pub(crate) fn outputs(plan: &Plan, fram: &Fram, thread: usize) -> Option<[u64; 2]> {
+    let first = plan.layout.threads.as_slice().get(thread)?.log;
+    Some([word_at(fram, first)?, word_at(fram, first.wrapping_add(1))?])
+}
+
+// The first ring word of a pipe.
+pub(crate) fn first_item(plan: &Plan, fram: &Fram, pipe: usize) -> Option<u64> {
+    let first = plan.layout.rings.as_slice().get(pipe)?;
+    word_at(fram, *first)
+}
