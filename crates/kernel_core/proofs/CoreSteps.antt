@@ -23,7 +23,7 @@ use Rattle.never_cut.specs.Actors.{IsAllowed}
 use Rattle.push_core.specs.declared.pusher.Pusher.{Pusher}
 use Rattle.power_trace.specs.Job.{JobParts}
 use Rattle.reboot.proofs.Ranges.{boot_in_range}
-use Rattle.priority_sched.proofs.Ends.{scan_in_range}
+use Rattle.priority_sched.proofs.Ranges.{scan_in_range}
 use Rattle.task_run.proofs.Ranges.{every_task_fits}
 use Rattle.kernel_core.specs.declared.kernel.Kernel.{Kernel}
 use Rattle.kernel_core.specs.declared.kernel.Kernel.TheVariants as kernels
@@ -84,14 +84,14 @@ module _ (job : JobParts) (l : Layout) (b : Board) (room : ℕ) (ps : List Pushe
   commits_room some = let c = h.range.commits in omega arith
 
   on_board : 0 < room → IsOnBoard job.program (place_of (wants job.program b.kernel))
-  on_board some = kernel_on (setup_of job) (memory (setup_of job) b) (state (setup_of job) b) b.kernel h.is_setup (background_of (setup_of job) (length job.charges) b h.is_setup h.holds).0 (commits_room some) h.holds.registers
+  on_board some = kernel_on (setup_of job) (memory (setup_of job) b) (state (setup_of job) b) b.kernel h.is_setup (background_of (setup_of job) (length job.charges) b h.is_setup h.holds) (commits_room some) h.holds.registers
 
   pub access_is : 0 < room → at_layout l (wants job.program b.kernel) ≡ kernel_access (setup_of job) b
   access_is some = same_access job.program l (wants job.program b.kernel) h.layout_is (on_board some)
 
   ranges : 0 < room → (k : Kernel) → b.kernel ≡ k → CanWant job.program k × CanTake job.program k (answer (memory (setup_of job) b) (wants job.program k))
   ranges some k is =
-      let bg = (background_of (setup_of job) (length job.charges) b h.is_setup h.holds).0 in
+      let bg = background_of (setup_of job) (length job.charges) b h.is_setup h.holds in
       by_kernel k (subst (λ z. Rattle.kernel_core.specs.Holds.KernelHolds job.program (memory (setup_of job) b) (state (setup_of job) b) z) is h.holds.registers) bg
     where
       by_kernel : (k : Kernel) → Rattle.kernel_core.specs.Holds.KernelHolds job.program (memory (setup_of job) b) (state (setup_of job) b) k →
@@ -100,9 +100,9 @@ module _ (job : JobParts) (l : Layout) (b : Board) (room : ℕ) (ps : List Pushe
       by_kernel (kernels.Boot boot) r bg =
           let in_range = boot_in_range job.program job.readings (memory (setup_of job) b) (state (setup_of job) b) boot bg r.0 in (in_range.row, (in_range.row, in_range.word))
       by_kernel (kernels.Scan stamp scan) r bg =
-          let in_range = scan_in_range job.program job.readings (memory (setup_of job) b) (state (setup_of job) b) scan bg r.1 in (in_range.row, (in_range.row, in_range.word))
+          let in_range = scan_in_range job.program job.readings (memory (setup_of job) b) (state (setup_of job) b) scan bg (commits_room some) r.1 in (in_range.row, (in_range.row, in_range.word))
       by_kernel (kernels.Task machine) r bg =
-          let can = every_task_fits job.program job.readings (memory (setup_of job) b) (state (setup_of job) b) machine bg (commits_room some) r.0 r.1 in (can.wants, can.takes)
+          let can = every_task_fits job.program job.readings (memory (setup_of job) b) (state (setup_of job) b) machine bg (commits_room some) r.0 r.1 in (can.wants, (can.wants, can.takes))
 
   pub can_want : 0 < room → CanWant job.program b.kernel
   can_want some = (ranges some b.kernel refl).0
@@ -115,7 +115,7 @@ module _ (job : JobParts) (l : Layout) (b : Board) (room : ℕ) (ps : List Pushe
   pub adds_nothing : (a : Access) → 0 < room → a ≡ at_layout l (wants job.program b.kernel) → FitsWords b.words a
   adds_nothing a some is =
       let bg = background_of (setup_of job) (length job.charges) b h.is_setup h.holds in
-      let step = kernel_steps (setup_of job) (memory (setup_of job) b) (state (setup_of job) b) (Rattle.kernel_core.specs.Board.row_of b) b.kernel h.is_setup bg.0 bg.1 h.holds.registers in
+      let step = kernel_steps (setup_of job) (memory (setup_of job) b) (state (setup_of job) b) (Rattle.kernel_core.specs.Board.row_of b) b.kernel h.is_setup bg (commits_room some) h.holds.registers in
       subst (λ z. FitsWords b.words z) (sym (is ∙ access_is some)) (allowed_fits (setup_of job) b.words (state (setup_of job) b) (wants job.program b.kernel) (memory (setup_of job) b) step.kept.allowed)
 
   pub can_take : (a : Access) (w : ℕ) → 0 < room → a ≡ at_layout l (wants job.program b.kernel) → w ≡ slice_index b.words (address_of a) → CanTake job.program b.kernel w

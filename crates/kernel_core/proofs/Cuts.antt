@@ -68,13 +68,12 @@ module _ (s : Setup) (count : ℕ) (b : Board) (by : ℕ) (g : IsSetup s) (h : H
   background_ticked : Background s.program s.readings ticked next_state
   background_ticked =
       let bg = background_of s count b g h in
-      let sound = noted_sound s (state s b) (Some (Tick by)) g bg.0.sound bg.1 room in
+      let sound = noted_sound s (state s b) (Some (Tick by)) g bg.sound room in
       record {
         accepted = g.accepted;
-        plain = g.plain;
         private = private_ticked;
-        shared = shared_of s ticked next_state (row_of b) g sound.0 (kept_ticked (row_of b) (λ i. inl refl)) clock_ticked;
-        sound = sound.0;
+        shared = shared_of s ticked next_state (row_of b) g sound (kept_ticked (row_of b) (λ i. inl refl)) clock_ticked;
+        sound = sound;
       }
 
 pub clock_goes : (s : Setup) (count : ℕ) (b : Board) → IsSetup s → Holds s count b → 0 < b.begun → (state s b).clock + 1 < 2 ^ 47 → Goes s count b (clock_turn s b) 1

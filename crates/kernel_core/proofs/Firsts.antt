@@ -1,28 +1,23 @@
 -- The first board holds.
-use Rattle.std.proofs.Common.{◌≡◌, inl, inr, ℕ, zero, suc, ◌+◌, ◌-◌, ◌*◌, ◌/◌, ◌%◌, ◌<◌, ◌≤◌, ◌==◌, ◌&&◌, ◌++◌, cond, Bool, true, false, List, [], ◌∷◌, length, map, take, replicate, get_or, slice_index, Some, None, refl, sym, ap, ◌∙◌, subst, arith}
-use Rattle.std.specs.Prelude.{nat_lt, nat_le, if◌then◌else◌}
+use Rattle.std.proofs.Common.{◌≡◌, inl, inr, ℕ, zero, suc, ◌+◌, ◌*◌, ◌≤◌, ◌&&◌, Bool, true, false, List, [], ◌∷◌, length, map, take, replicate, get_or, refl, ap, arith}
+use Rattle.std.specs.Prelude.{nat_lt}
 use Rattle.std.proofs.lemmas.Bool.{cases_lt, le-ltb}
 use Rattle.std.proofs.lemmas.List.{length-map, length-replicate, get_or-replicate, get_or_past}
 use Rattle.ink_base.specs.declared.ids.ThreadId.{ThreadId}
-use Rattle.fram_words.specs.Places.{Place, Code, Commit, Page, Tail, Slot, Ack, Clock, Src}
-use Rattle.fram_words.specs.Shape.{is_valid, memory_of, address, regions, region, offset, has_indices, thread_regions, queue_regions}
-use Rattle.thread_state.specs.Pages.{place_in}
+use Rattle.fram_words.specs.Places.{Place, Tail, Slot, Ack, Clock, Src}
+use Rattle.fram_words.specs.Shape.{memory_of, region, offset, has_indices}
 use Rattle.task_isa.specs.declared.program.Program.{Program}
 use Rattle.task_isa.specs.declared.program.ThreadDef.{ThreadDef}
-use Rattle.prog_check.specs.Lookup.{thread_def, no_thread_def, timer_def, pipe_def}
-use Rattle.ink_layout.specs.Shape.{shape_of, pages_of, thread_shape, task_words, pipe_words, queue_words}
-use Rattle.ink_layout.proofs.Regions.{at_right, in_rest}
-use Rattle.std.proofs.lemmas.Nat.Bits.{bit_at-lt}
-use Rattle.std.specs.Int.{bit_at}
-use Rattle.ink_layout.specs.Image.{IsFirstImage, timed_word, is_timer_of, timer_word}
+use Rattle.prog_check.specs.Lookup.{thread_def, no_thread_def}
+use Rattle.ink_layout.specs.Shape.{shape_of, thread_shape, task_words, pipe_words, queue_words}
+use Rattle.ink_layout.proofs.Regions.{in_rest}
+use Rattle.ink_layout.specs.Image.{IsFirstImage}
 use Rattle.push_core.specs.Table.{first_row}
 use Rattle.source_laws.specs.Model.{open_queue}
 use Rattle.source_laws.specs.Steps.{IsFirst}
 use Rattle.source_laws.proofs.Runs.{kept_first}
-use Rattle.never_cut.specs.declared.thread_model.ThreadModel.{ThreadModel}
-use Rattle.never_cut.specs.State.{thread_of, pipe_of, timer_of, no_thread, no_source, open_model, open_thread, open_source}
-use Rattle.never_cut.specs.Stands.{Saved, saved, thread_words, flag, due_word, StandsThread, StandsPrivate}
-use Rattle.never_cut.specs.Plain.{IsPlain}
+use Rattle.never_cut.specs.State.{no_thread, no_source, open_model, open_thread, open_source}
+use Rattle.never_cut.proofs.FirstImages.{false_second, nothing_at, first_private}
 use Rattle.never_cut.proofs.SoundStates.{open_sound}
 use Rattle.reboot.proofs.Boots.{boot_begins}
 use Rattle.kernel_core.specs.Record.{ChargeRecord, not_begun, charge_of}
@@ -35,146 +30,11 @@ use Rattle.kernel_core.proofs.Cuts.{first_rows}
 use Rattle.kernel_core.proofs.Runs.{moves_hold, moves_taken, ticks_taken, turns_taken}
 use Rattle.kernel_core.proofs.Standing.{board_stands}
 
--- the words of a thread's pages
-pages_at : (defs : List ThreadDef) (rest : List ℕ) (t : ℕ) → t < length defs →
-    get_or (thread_regions (map thread_shape defs) ++ rest) (suc (3 * t)) 0 ≡ 16 * pages_of (get_or defs t no_thread_def)
-pages_at [] rest t lt = absurd (omega arith)
-pages_at (d ∷ defs) rest zero lt = refl
-pages_at (d ∷ defs) rest (suc t) lt =
-    let e : suc (3 * suc t) ≡ suc (suc (suc (suc (3 * t)))) = omega arith in
-    subst (λ n. get_or (thread_regions (map thread_shape (d ∷ defs)) ++ rest) n 0 ≡ 16 * pages_of (get_or defs t no_thread_def)) (sym e) (pages_at defs rest t (omega arith))
-
-false_second : (a c : Bool) → c ≡ false → (a && c) ≡ false
-false_second true c is = is
-false_second false c is = refl
-
--- a page that the thread doesn't have is none of the board's words
-no_page : (program : Program) (t p b k : ℕ) → t < length program.threads → pages_of (thread_def program t) ≤ p → is_valid (shape_of program) (Page t p b k) ≡ false
-no_page program t p b k known past =
-    let size : slice_index (regions (shape_of program)) (region (shape_of program) (Page t p b k)) ≡ 16 * pages_of (thread_def program t) =
-    at_right (shape_of program).tasks (thread_regions (shape_of program).threads ++ ((shape_of program).pipes ++ (queue_regions (shape_of program).queues ++ (length program.sources ∷ 1 ∷ length program.sources ∷ []))))
-    (suc (3 * t)) (region (shape_of program) (Page t p b k)) (omega arith)
-    ∙ pages_at program.threads ((shape_of program).pipes ++ (queue_regions (shape_of program).queues ++ (length program.sources ∷ 1 ∷ length program.sources ∷ []))) t known in
-    let out : nat_lt (offset (Page t p b k)) (slice_index (regions (shape_of program)) (region (shape_of program) (Page t p b k))) ≡ false =
-    le-ltb _ _ (omega (arith, size)) in
-    false_second (has_indices (shape_of program) (Page t p b k)) _ out
-
--- nothing stands at a place that the board doesn't have
-nothing_at : (program : Program) (words : List ℕ) (p : Place) → is_valid (shape_of program) p ≡ false → memory_of (shape_of program) words p ≡ 0
-nothing_at program words p past = ap (λ (b : Bool). cond b (slice_index words (address (shape_of program) p)) 0) past
-
-untimed : (program : Program) (count t w : ℕ) → count ≡ 0 → timed_word program count t w ≡ 0
-untimed program count t w none =
-    ap (λ n. timed_word program n t w) none ∙ by_test (nat_le 26 w)
-  where
-    by_test : (b : Bool) → (if b && is_timer_of program 0 t ((w - 26) / 2) then timer_word (timer_def program ((w - 26) / 2)) (w % 2 == 0) else 0) ≡ 0
-    by_test true = ap (λ (a : Bool). if a && ((timer_def program ((w - 26) / 2)).thread.0 == t) then timer_word (timer_def program ((w - 26) / 2)) (w % 2 == 0) else 0) (le-ltb ((w - 26) / 2) 0 (omega arith))
-    by_test false = refl
-
--- each word of a thread's pages is 0, whichever copy
-page_zero : (program : Program) (words : List ℕ) (t mask w : ℕ) → IsPlain program → IsFirstImage program words → t < length program.threads →
-    memory_of (shape_of program) words (place_in t mask w) ≡ 0
-page_zero program words t mask w plain image known =
-    let timers : length program.timers ≡ 0 = ap length plain.timers in
-    elim (cases_lt (w / 8) (pages_of (thread_def program t))) [
-      | inl lt ↦ image.each (place_in t mask w) (known, lt, omega (arith, bit_at-lt mask (w / 8)), omega arith)
-          ∙ untimed program (length program.timers) t (8 * (w / 8) + w % 8) timers
-      | inr past ↦ nothing_at program words (place_in t mask w) (no_page program t (w / 8) (bit_at mask (w / 8)) (w % 8) known past)
-    ]
-
-zeros_before : ℕ → List ℕ → List ℕ
-zeros_before zero xs = xs
-zeros_before (suc n) xs = 0 ∷ zeros_before n xs
-
-all_zero : (n : ℕ) (xs : List ℕ) → ((w : ℕ) → get_or xs w 0 ≡ 0) → (w : ℕ) → get_or (zeros_before n xs) w 0 ≡ 0
-unfolding zeros_before
-all_zero zero xs h w = h w
-all_zero (suc n) xs h zero = refl
-all_zero (suc n) xs h (suc w) = all_zero n xs h w
-
-state_zero : (n w : ℕ) → ◌≡◌ {A = ℕ} (get_or (replicate n 0) w 0) 0
-state_zero n w =
-    elim (cases_lt w n) [
-      | inl lt ↦ get_or-replicate n w 0 0 lt
-      | inr past ↦ get_or_past (replicate n 0) w 0 (let z : ℕ = 0 in let e : length (replicate n z) ≡ n = length-replicate n z in omega (arith, e))
-    ]
-
--- the threads and sources of the state at the start
-open_at : (defs : List ThreadDef) (t : ℕ) → t < length defs → get_or (map open_thread defs) t no_thread ≡ open_thread (get_or defs t no_thread_def)
-open_at [] t lt = absurd (omega arith)
-open_at (d ∷ defs) zero lt = refl
-open_at (d ∷ defs) (suc t) lt = open_at defs t (omega arith)
-
+-- the sources of the state at the start
 open_source_at : (sources : List ThreadId) (i : ℕ) → get_or (map open_source sources) i no_source ≡ no_source
 open_source_at [] i = refl
 open_source_at (s ∷ sources) zero = refl
 open_source_at (s ∷ sources) (suc i) = open_source_at sources i
-
--- what the words of a thread say at the start
-open_saved : ℕ → Saved
-open_saved n = record {
-  state = replicate n 0;
-  running = None;
-  first = 0;
-  ended = 0;
-  served = 0;
-  trapped = 0;
-  expired = 0;
-  outputs = [];
-  written = λ q. 0;
-  taken = λ q. 0;
-  due = λ j. 0;
-  period = λ j. 0;
-}
-
-open_words : (n w : ℕ) → get_or (thread_words (open_saved n) 0 0 0) w 0 ≡ 0
-unfolding thread_words open_saved zeros_before
-open_words n w = all_zero 48 (replicate n 0) (state_zero n) w
-
-none_of : (n q x : ℕ) (b : Bool) → n ≡ 0 → (if nat_lt q n && b then x else 0) ≡ 0
-none_of n q x b is = ap (λ (k : ℕ). if nat_lt q k && b then x else 0) is ∙ ap (λ (a : Bool). if a && b then x else 0) (le-ltb q 0 (omega arith))
-
-saved_open : (program : Program) (t : ℕ) → IsPlain program → t < length program.threads → saved program (open_model program) t ≡ open_saved (thread_def program t).state
-unfolding open_saved
-saved_open program t plain lt =
-    let x = open_at program.threads t lt in
-    let pipes : length program.pipes ≡ 0 = ap length plain.pipes in
-    let timers : length program.timers ≡ 0 = ap length plain.timers in
-    λ k. record {
-      state = (x k).state;
-      running = (x k).running;
-      first = (x k).first;
-      ended = (x k).released + flag (x k).finished;
-      served = (x k).served;
-      trapped = (x k).trapped;
-      expired = (x k).expired;
-      outputs = [];
-      written = λ q. none_of (length program.pipes) q ((pipe_of (open_model program) q).taken + length (pipe_of (open_model program) q).items) ((pipe_def program q).writer.0 == t) pipes k;
-      taken = λ q. none_of (length program.pipes) q (pipe_of (open_model program) q).taken ((pipe_def program q).reader.0 == t) pipes k;
-      due = λ j. none_of (length program.timers) j (due_word (timer_of (open_model program) j).due) ((timer_def program j).thread.0 == t) timers k;
-      period = λ j. none_of (length program.timers) j (timer_of (open_model program) j).period ((timer_def program j).thread.0 == t) timers k;
-    }
-
-first_thread : (program : Program) (words : List ℕ) (t : ℕ) → IsPlain program → IsFirstImage program words → t < length program.threads →
-    StandsThread (memory_of (shape_of program) words) program (open_model program) t
-first_thread program words t plain image known = record {
-  stamp = 0;
-  origin = 0;
-  value = 0;
-  block = λ w. page_zero program words t (memory_of (shape_of program) words (Commit t)) w plain image known
-      ∙ sym (ap (λ (y : Saved). slice_index (thread_words y 0 0 0) w) (saved_open program t plain known) ∙ open_words (thread_def program t).state w);
-  event = λ e is. absurd (let none : (thread_of (open_model program) t).event ≡ None = ap (λ (x : ThreadModel). x.event) (open_at program.threads t known) in let clash : None ≡ Some e = sym none ∙ is in cc);
-  log = λ n lt. absurd (omega arith);
-}
-
-first_private : (program : Program) (words : List ℕ) → IsPlain program → IsFirstImage program words → StandsPrivate (memory_of (shape_of program) words) program (open_model program)
-first_private program words plain image = record {
-  code = λ x n known lt. image.each (Code x n) (known, lt);
-  threads = λ t lt. first_thread program words t plain image lt;
-  stamps = λ t lt. let none = page_zero program words t (memory_of (shape_of program) words (Commit t)) 0 plain image lt in omega (arith, none);
-  newest = inl refl;
-  pipes = λ q lt. absurd (let none : length program.pipes ≡ 0 = ap length plain.pipes in omega arith);
-}
 
 -- a place past the threads has no words
 no_queue_word : (program : Program) (t : ℕ) → length program.threads ≤ t → nat_lt t (length (map queue_words program.threads)) ≡ false
@@ -253,9 +113,9 @@ first_size s words charges image = record {
 
 pub first_holds : (s : Setup) (words : List ℕ) (charges : ℕ) → IsSetup s → IsFirstImage s.program words → Holds s charges (first_board s words charges)
 first_holds s words charges g image =
-    let private = first_private s.program words g.plain image in
+    let private = first_private s.program words g.accepted image in
     let kept = kept_first (sides s) (seen (memory s (first_board s words charges)) (open_model s.program) (row_of (first_board s words charges))) (first_sides s words charges image) in
-    let sound = open_sound s.program s.readings g.plain in
+    let sound = open_sound s.program s.readings g.accepted in
     let clock : memory_of (shape s) words Clock ≡ 0 = image.each Clock tt in
     record {
       size = first_size s words charges image;
@@ -265,7 +125,7 @@ first_holds s words charges g image =
       kept = kept;
       registers = (
         boot_begins s.program s.readings (memory s (first_board s words charges)) (open_model s.program)
-            (record { accepted = g.accepted; plain = g.plain; private = private; shared = shared_of s (memory s (first_board s words charges)) (open_model s.program) (row_of (first_board s words charges)) g sound kept clock; sound = sound }),
+            (record { accepted = g.accepted; private = private; shared = shared_of s (memory s (first_board s words charges)) (open_model s.program) (row_of (first_board s words charges)) g sound kept clock; sound = sound }),
         refl,
       );
     }

@@ -15,7 +15,6 @@ use Rattle.push_core.specs.Table.{is_left, point_of}
 use Rattle.source_laws.specs.Rows.{port_of}
 use Rattle.never_cut.specs.Entries.{readings_of}
 use Rattle.never_cut.specs.Journal.{noted, IsLegal}
-use Rattle.never_cut.specs.Plain.{IsPlain}
 use Rattle.task_run.specs.Knows.{HasCode}
 use Rattle.kernel_core.specs.Kernel.{point_found}
 use Rattle.kernel_core.specs.Record.{ChargeRecord, not_begun, with_kernel, with_source, with_tick, journal_of}
@@ -151,10 +150,10 @@ pub run_journal : (s : Setup) (words : List ℕ) (charges : List Charge) → jou
 run_journal s words charges =
     ap (λ n. journal_of (run s words charges).charges n) (all_begun s words charges ∙ sym (all_recorded s words charges)) ∙ journal_is (run s words charges).charges
 
-module _ (job : JobParts) (words : List ℕ) (is : IsJob job) (plain : IsPlain job.program) (code : HasCode job.program) (image : IsFirstImage job.program words) where
+module _ (job : JobParts) (words : List ℕ) (is : IsJob job) (code : HasCode job.program) (image : IsFirstImage job.program words) where
   sizes : KeepSize (setup_of job) (length job.charges) (first_board (setup_of job) words (length job.charges)) (moves job.charges)
   sizes n =
-      let g = job_setup job is plain code in
+      let g = job_setup job is code in
       (moves_hold (setup_of job) (length job.charges) (first_board (setup_of job) words (length job.charges)) (take n (moves job.charges)) g
       (first_holds (setup_of job) words (length job.charges) g image)
       (moves_taken (setup_of job) (length job.charges) 0 n (moves job.charges) (job_moves job is))
@@ -179,4 +178,4 @@ module _ (job : JobParts) (words : List ℕ) (is : IsJob job) (plain : IsPlain j
   run_legal =
       subst (λ l. IsLegal job.program job.readings (journal (moved_by (setup_of job) (first_board (setup_of job) words (length job.charges)) l)))
       (take_all (length (moves job.charges)) (moves job.charges) (omega arith))
-      (job_prefixes_stand job words is plain code image (length (moves job.charges))).legal
+      (job_prefixes_stand job words is code image (length (moves job.charges))).legal

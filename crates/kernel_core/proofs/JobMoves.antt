@@ -11,7 +11,6 @@ use Rattle.power_trace.specs.declared.charge.Charge.{Charge}
 use Rattle.power_trace.specs.declared.item.Item.{Item}
 use Rattle.power_trace.specs.Job.{JobParts, IsJob, IsOnBoard, IsRightCharge, AreReadings, item_turns, charge_turns}
 use Rattle.never_cut.specs.Entries.{readings_of}
-use Rattle.never_cut.specs.Plain.{IsPlain}
 use Rattle.never_cut.specs.Within.{AreShort}
 use Rattle.task_run.specs.Knows.{HasCode}
 use Rattle.kernel_core.specs.Board.{Setup, Move, Turn}
@@ -133,11 +132,11 @@ job_short job is = record {
 }
 
 -- what a job of a program of today sets up
-pub job_setup : (job : JobParts) → IsJob job → IsPlain job.program → HasCode job.program → IsSetup (setup_of job)
-job_setup job is plain code = record { accepted = is.accepted; plain = plain; code = code; short = job_short job is }
+pub job_setup : (job : JobParts) → IsJob job → HasCode job.program → IsSetup (setup_of job)
+job_setup job is code = record { accepted = is.accepted; code = code; short = job_short job is }
 
 -- after every cut and turn that the job lists
-pub job_prefixes_stand : (job : JobParts) (words : List ℕ) → IsJob job → IsPlain job.program → HasCode job.program → IsFirstImage job.program words → (n : ℕ) →
+pub job_prefixes_stand : (job : JobParts) (words : List ℕ) → IsJob job → HasCode job.program → IsFirstImage job.program words → (n : ℕ) →
     BoardStands (setup_of job) (run_first (setup_of job) words job.charges n)
-job_prefixes_stand job words is plain code image n =
-    every_prefix (setup_of job) words (length job.charges) (moves job.charges) (job_setup job is plain code) image (job_moves job is) (job_ticks job is) (job_turns job is) n
+job_prefixes_stand job words is code image n =
+    every_prefix (setup_of job) words (length job.charges) (moves job.charges) (job_setup job is code) image (job_moves job is) (job_ticks job is) (job_turns job is) n

@@ -6,7 +6,8 @@ use Rattle.std.specs.Int.{bit_at}
 use Rattle.ink_base.specs.declared.event.Event.{Event}
 use Rattle.fram_words.specs.Places.{Memory, place_of}
 use Rattle.thread_state.specs.Pages.{Buffer, Copying, Loading, Storing, place_in, working_mask, put_access, write_access, copy_access, is_dirty, IsUnderWay}
-use Rattle.prog_check.specs.Lookup.{thread_def}
+use Rattle.std.specs.Prelude.{if◌then◌else◌}
+use Rattle.prog_check.specs.Lookup.{thread_def, pipe_def}
 use Rattle.task_isa.specs.declared.program.Program.{Program}
 use Rattle.ink_layout.specs.Shape.{IsOnBoard, pages_of}
 use Rattle.never_cut.specs.declared.model.Model.{Model}
@@ -20,14 +21,15 @@ use Rattle.reboot.specs.Boot.{boot_wants}
 use Rattle.reboot.specs.Knows.{BootKnows}
 use Rattle.reboot.specs.declared.boot_at.BootAt.{BootAt}
 use Rattle.reboot.specs.declared.boot_at.BootAt.TheVariants as boot
-use Rattle.priority_sched.specs.Scan.{scan_wants}
-use Rattle.priority_sched.specs.Knows.{ScanKnows}
+use Rattle.priority_sched.specs.Scan.{scan_wants, IsScanRow}
+use Rattle.priority_sched.proofs.Ranges.{scan_in_range}
 use Rattle.priority_sched.specs.declared.scan_at.ScanAt.{ScanAt}
 use Rattle.priority_sched.specs.declared.scan_at.ScanAt.TheVariants as scan
+use Rattle.persist_timer.specs.Due.{armed}
 use Rattle.task_run.specs.declared.phase.Phase.{Phase}
 use Rattle.task_run.specs.declared.phase.Phase.TheVariants as phase
 use Rattle.task_run.specs.declared.machine.TaskMachine.{TaskMachine}
-use Rattle.task_run.specs.Machine.{action, access_of}
+use Rattle.task_run.specs.Machine.{Put, action, access_of, device, fetch, is_late}
 use Rattle.task_run.specs.Endings.{next_by, total_word}
 use Rattle.task_run.specs.Serving.{Serving, assignment, Progress}
 use Rattle.task_run.specs.Fits.{FitsPhase}
@@ -66,18 +68,23 @@ boot_on s words m t stamp (boot.Ack p source count) g b known h = finishing_sour
 boot_on s words m t stamp (boot.Empty p) g b known h = (known, slot_on s t p g known)
 boot_on s words m t stamp boot.Over g b known h = known
 
-scan_on : (s : Setup) (words : Memory) (m : Model) (t time : ℕ) (at : ScanAt) → IsSetup s → t < length s.program.threads → ScanKnows s.program words m t time at →
-    IsOnBoard s.program (place_of (scan_wants s.program t at))
-scan_on s words m t time scan.Clock g known h = tt
-scan_on s words m t time scan.Commit g known h = known
-scan_on s words m t time (scan.Running c) g known h = in_block s.program t c 1 known (omega arith)
-scan_on s words m t time (scan.Finished c running) g known h = in_block s.program t c 5 known (omega arith)
-scan_on s words m t time (scan.Origin chain) g known h = absurd h
-scan_on s words m t time (scan.Value chain o) g known h = absurd h
-scan_on s words m t time (scan.First chain e) g known h = absurd h
-scan_on s words m t time (scan.Slot c p) g known h = (known, slot_on s t p g known)
-scan_on s words m t time (scan.Picked pick) g known h = tt
-scan_on s words m t time scan.Quiet g known h = tt
+scan_on : (s : Setup) (t : ℕ) (at : ScanAt) → IsSetup s → t < length s.program.threads → IsScanRow s.program at → IsOnBoard s.program (place_of (scan_wants s.program t at))
+scan_on s t (scan.Running c) g known row = in_block s.program t c 1 known (omega arith)
+scan_on s t (scan.Finished c running) g known row = in_block s.program t c 5 known (omega arith)
+scan_on s t (scan.Origin chain) g known row = in_block s.program t chain.commit_word 3 known (omega arith)
+scan_on s t (scan.Value chain o) g known row = in_block s.program t chain.commit_word 4 known (omega arith)
+scan_on s t (scan.First chain e) g known row = in_block s.program t chain.commit_word 2 known (omega arith)
+scan_on s t (scan.Slot c p) g known row = (known, slot_on s t p g known)
+scan_on s t (scan.Taken idle pipe) g known row = let few = g.accepted.counts.pipes in in_block s.program t idle.commit_word (18 + pipe.0) known (omega arith)
+scan_on s t (scan.Writer w) g known row = (g.accepted.pipes w.pipe.0 row.0).writer
+scan_on s t (scan.Written w c) g known row =
+    let few = g.accepted.counts.pipes in
+    let lt = row.0 in
+    in_block s.program (pipe_def s.program w.pipe.0).writer.0 c (10 + w.pipe.0) (g.accepted.pipes w.pipe.0 row.0).writer (omega arith)
+scan_on s t (scan.Item w) g known row = let some = (g.accepted.pipes w.pipe.0 row.0).places_least in (row.0, mod-lt w.taken (omega arith))
+scan_on s t (scan.Timer idle timer) g known row = let few = g.accepted.counts.timers in in_block s.program t idle.commit_word (26 + 2 * timer.0) known (omega arith)
+scan_on s t scan.Commit g known row = known
+scan_on s t _ g known row = tt
 
 -- the place of a write, or of the copying of its page
 put_on : (program : Program) (words : Memory) (t : ℕ) (b : Buffer) (w v : ℕ) → t < length program.threads → w < 8 * pages_of (thread_def program t) → IsUnderWay words t b (w / 8) →
@@ -99,12 +106,24 @@ ready_at : (program : Program) (words : Memory) (m : Model) (r : TaskMachine) (a
     Rattle.task_run.specs.Serving.IsReady words r.pick.thread.0 r.buffer (action program r at)
 ready_at program words m r at is h = subst (λ p. Rattle.task_run.specs.Serving.IsReady words r.pick.thread.0 r.buffer (action program r p)) is h.ready
 
-task_on : (s : Setup) (words : Memory) (m : Model) (r : TaskMachine) (at : Phase) → r.phase ≡ at → IsSetup s → r.pick.thread.0 < length s.program.threads → FitsPhase s.program r at 0 →
+task_on : (s : Setup) (words : Memory) (m : Model) (r : TaskMachine) (at : Phase) → r.phase ≡ at → IsSetup s → r.pick.thread.0 < length s.program.threads → FitsPhase s.program r at →
     KnowsAt s.program words m r at → IsOnBoard s.program (place_of (access_of r (action s.program r at)))
 task_on s words m r phase.WriteFirst is g known f h = put_on s.program words r.pick.thread.0 r.buffer 2 r.pick.time known (omega arith) (ready_at s.program words m r phase.WriteFirst is h)
 task_on s words m r phase.WriteOrigin is g known f h =
     put_on s.program words r.pick.thread.0 r.buffer 3 (Rattle.never_cut.specs.Stands.origin_word r.pick.event.origin) known (omega arith) (ready_at s.program words m r phase.WriteOrigin is h)
 task_on s words m r phase.WriteValue is g known f h = put_on s.program words r.pick.thread.0 r.buffer 4 r.pick.event.value known (omega arith) (ready_at s.program words m r phase.WriteValue is h)
+task_on s words m r phase.WriteTaken is g known f h =
+    let lt = f.0 in
+    put_on s.program words r.pick.thread.0 r.buffer (18 + device r) (r.pick.taken + 1) known (omega arith) (ready_at s.program words m r phase.WriteTaken is h)
+task_on s words m r phase.ReadPeriod is g known f h = let lt = f.0 in in_block s.program r.pick.thread.0 (working_mask r.buffer) (27 + 2 * device r) known (omega arith)
+task_on s words m r (phase.WriteDue word) is g known f h =
+    put_on s.program words r.pick.thread.0 r.buffer (26 + 2 * device r) word known (omega (arith, f)) (ready_at s.program words m r (phase.WriteDue word) is h)
+task_on s words m r phase.Resume is g known f h = resume_on (is_late s.program r) (ready_at s.program words m r phase.Resume is h)
+  where
+    resume_on : (late : Bool) → Rattle.task_run.specs.Serving.IsReady words r.pick.thread.0 r.buffer (if late then Put 1 0 else fetch r) →
+        IsOnBoard s.program (place_of (access_of r (if late then Put 1 0 else fetch r)))
+    resume_on true ready = put_on s.program words r.pick.thread.0 r.buffer 1 0 known (omega arith) ready
+    resume_on false ready = (f.0.task, f.0.inside)
 task_on s words m r phase.Fetch is g known f h = (f.task, f.inside)
 task_on s words m r (phase.ReadState a n) is g known f h = let lt = f.1 in in_block s.program r.pick.thread.0 (working_mask r.buffer) (48 + n) known (omega arith)
 task_on s words m r (phase.WriteState n v) is g known f h =
@@ -112,6 +131,34 @@ task_on s words m r (phase.WriteState n v) is g known f h =
 task_on s words m r (phase.ReadCount v) is g known f h = in_block s.program r.pick.thread.0 (working_mask r.buffer) 9 known (omega arith)
 task_on s words m r (phase.StoreLog n v) is g known f h = (known, f)
 task_on s words m r (phase.WriteCount n) is g known f h = put_on s.program words r.pick.thread.0 r.buffer 9 n known (omega arith) (ready_at s.program words m r (phase.WriteCount n) is h)
+task_on s words m r (phase.LoadReader x) is g known f h = (g.accepted.pipes x.pipe f.1).reader
+task_on s words m r (phase.LoadTaken x commit) is g known f h =
+    let pipe = g.accepted.pipes x.pipe f.1 in
+    let few = g.accepted.counts.pipes in
+    let lt = f.1 in
+    in_block s.program (pipe_def s.program x.pipe).reader.0 commit (18 + x.pipe) pipe.reader (omega arith)
+task_on s words m r (phase.ReadWritten x taken) is g known f h =
+    let few = g.accepted.counts.pipes in
+    let lt = f.0.1 in
+    in_block s.program r.pick.thread.0 (working_mask r.buffer) (10 + x.pipe) known (omega arith)
+task_on s words m r (phase.StoreItem x written) is g known f h =
+    let some = (g.accepted.pipes x.pipe f.0.1).places_least in (f.0.1, mod-lt written (omega arith))
+task_on s words m r (phase.WriteWritten x written) is g known f h =
+    let few = g.accepted.counts.pipes in
+    let lt = f.0.1 in
+    put_on s.program words r.pick.thread.0 r.buffer (10 + x.pipe) (written + 1) known (omega arith) (ready_at s.program words m r (phase.WriteWritten x written) is h)
+task_on s words m r (phase.WriteArmed timer delay period) is g known f h =
+    let few = g.accepted.counts.timers in
+    let lt = f.1 in
+    put_on s.program words r.pick.thread.0 r.buffer (26 + 2 * timer) (armed r.pick.time delay) known (omega arith) (ready_at s.program words m r (phase.WriteArmed timer delay period) is h)
+task_on s words m r (phase.WritePeriod timer period) is g known f h =
+    let few = g.accepted.counts.timers in
+    let lt = f.1 in
+    put_on s.program words r.pick.thread.0 r.buffer (27 + 2 * timer) period known (omega arith) (ready_at s.program words m r (phase.WritePeriod timer period) is h)
+task_on s words m r (phase.WriteStopped timer) is g known f h =
+    let few = g.accepted.counts.timers in
+    let lt = f.1 in
+    put_on s.program words r.pick.thread.0 r.buffer (26 + 2 * timer) 0 known (omega arith) (ready_at s.program words m r (phase.WriteStopped timer) is h)
 task_on s words m r phase.WriteNext is g known f h = put_on s.program words r.pick.thread.0 r.buffer 1 (next_by r.ending) known (omega arith) (ready_at s.program words m r phase.WriteNext is h)
 task_on s words m r phase.WriteFinished is g known f h =
     put_on s.program words r.pick.thread.0 r.buffer 5 (r.pick.position + 1) known (omega arith) (ready_at s.program words m r phase.WriteFinished is h)
@@ -140,7 +187,9 @@ task_on s words m r phase.Over is g known f h = tt
 pub kernel_on : (s : Setup) (words : Memory) (m : Model) (kernel : Kernel) → IsSetup s → Background s.program s.readings words m → m.commits + 1 < 2 ^ 32 → KernelHolds s.program words m kernel →
     IsOnBoard s.program (place_of (wants s.program kernel))
 kernel_on s words m (kernels.Boot machine) g b room h = boot_on s words m machine.thread.0 machine.stamp machine.at g b h.0.known h.0.knows
-kernel_on s words m (kernels.Scan stamp machine) g b room h = scan_on s words m machine.thread.0 machine.time machine.at g h.1.known h.1.knows
+kernel_on s words m (kernels.Scan stamp machine) g b room h =
+    let range = scan_in_range s.program s.readings words m machine b room h.1 in
+    scan_on s machine.thread.0 machine.at g range.row.known range.row.row
 kernel_on s words m (kernels.Task r) g b room h =
     let fits = every_task_fits s.program s.readings words m r b room h.0 h.1 in
     task_on s words m r r.phase refl g fits.wants.thread fits.wants.phase h.0

@@ -1,6 +1,7 @@
 pub mod Sides
 pub mod Quiet
 pub mod KernelSteps
+pub mod CommitSides
 pub mod KernelMoves
 pub mod KernelTurns
 pub mod Others

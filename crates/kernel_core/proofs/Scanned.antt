@@ -128,15 +128,8 @@ look_commits thread t (Some e) is = cc
 
 scan_commits : (thread t : ThreadId) (at : ScanAt) (word : ℕ) → entry_of_point (scan_point thread at word) ≡ Some (entries.Commit t) → ⊥
 scan_commits thread t scans.Clock word is = cc
-scan_commits thread t scans.Commit word is = cc
-scan_commits thread t (scans.Running c) word is = cc
-scan_commits thread t (scans.Finished c running) word is = cc
-scan_commits thread t (scans.Origin chain) word is = cc
-scan_commits thread t (scans.Value chain o) word is = cc
-scan_commits thread t (scans.First chain e) word is = cc
 scan_commits thread t (scans.Slot c p) word is = look_commits thread t (event_at p (slot_in word)) is
-scan_commits thread t (scans.Picked pick) word is = cc
-scan_commits thread t scans.Quiet word is = cc
+scan_commits thread t _ word is = cc
 
 kernel_commits : (program : Program) (kernel : Kernel) (word : ℕ) (t : ThreadId) → entry_of_point (point_found program kernel word) ≡ Some (entries.Commit t) → HasScanned kernel
 kernel_commits program (Boot boot) word t is = absurd (boot_commits boot.thread t boot.at is)
@@ -150,15 +143,7 @@ not_booted boot (Some stamp) has = has
 
 under_way : (thread : ThreadId) (at : ScanAt) (word : ℕ) → IsUnderWay at ⊎ (entry_of_point (scan_point thread at word) ≡ Some entries.Scan)
 under_way thread scans.Clock word = inr refl
-under_way thread scans.Commit word = inl tt
-under_way thread (scans.Running c) word = inl tt
-under_way thread (scans.Finished c running) word = inl tt
-under_way thread (scans.Origin chain) word = inl tt
-under_way thread (scans.Value chain o) word = inl tt
-under_way thread (scans.First chain e) word = inl tt
-under_way thread (scans.Slot c p) word = inl tt
-under_way thread (scans.Picked pick) word = inl tt
-under_way thread scans.Quiet word = inl tt
+under_way thread _ word = inl tt
 
 kernel_scans : (program : Program) (kernel : Kernel) (word : ℕ) → HasScanned (takes program kernel word) → HasScanned kernel ⊎ (entry_of_point (point_found program kernel word) ≡ Some entries.Scan)
 kernel_scans program (Boot boot) word has =

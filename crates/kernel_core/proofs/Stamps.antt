@@ -7,14 +7,18 @@ use Rattle.task_isa.specs.declared.program.Program.{Program}
 use Rattle.task_isa.specs.Acts.{Cpu, act_of}
 use Rattle.task_isa.specs.Meaning.{advance, advance_with}
 use Rattle.task_isa.specs.Code.{decoded}
-use Rattle.prog_check.specs.Lookup.{thread_def, task_def}
+use Rattle.ink_base.specs.declared.event.Origin.{Origin}
+use Rattle.ink_base.specs.declared.event.Origin.TheVariants as origins
+use Rattle.event_pipe.specs.Ring.{has_room}
+use Rattle.prog_check.specs.Lookup.{thread_def, pipe_def, task_def}
 use Rattle.thread_state.specs.Pages.{is_dirty, after_copy}
+use Rattle.task_run.specs.declared.sending.Sending.{Sending}
 use Rattle.task_run.specs.declared.ending.Ending.{Ending}
 use Rattle.task_run.specs.declared.ending.Ending.TheVariants as endings
 use Rattle.task_run.specs.declared.phase.Phase.{Phase}
-use Rattle.task_run.specs.declared.phase.Phase.TheVariants.{WriteFirst, WriteOrigin, WriteValue, Fetch, ReadState, WriteState, ReadCount, StoreLog, WriteCount, WriteNext, WriteFinished, ReadTotal, WriteTotal, WriteStamp, StoreCommit, StoreAck, StoreEmpty, Over}
+use Rattle.task_run.specs.declared.phase.Phase.TheVariants.{WriteValue, WriteTaken, WriteDue, Resume, Fetch, ReadState, WriteState, ReadCount, StoreLog, WriteCount, ReadWritten, StoreItem, WriteWritten, WritePeriod, WriteStopped}
 use Rattle.task_run.specs.declared.machine.TaskMachine.{TaskMachine}
-use Rattle.task_run.specs.Machine.{Action, Put, Get, Make, action, after, after_action, after_act, after_event, at_phase, cpu_of, given_by, instr_of, proceed, stepped, take, trap}
+use Rattle.task_run.specs.Machine.{Action, Put, Get, Make, action, after, after_action, after_act, after_event, after_fetch, after_resume, after_value, after_written, at_phase, is_late, cpu_of, given_by, instr_of, proceed, stepped, take, trap}
 
 either_stamp : (b : Bool) (r x y : TaskMachine) → x.stamp ≡ r.stamp → y.stamp ≡ r.stamp → (cond b x y).stamp ≡ r.stamp
 either_stamp true r x y first second = first
@@ -41,25 +45,38 @@ event_stamp : (program : Program) (r : TaskMachine) (ending : Ending) → (after
 event_stamp program r endings.Done = refl
 event_stamp program r _ = refl
 
+value_stamp : (program : Program) (r : TaskMachine) (origin : Origin) → (after_value program r origin).stamp ≡ r.stamp
+value_stamp program r (origins.Source source count) = event_stamp program r r.ending
+value_stamp program r (origins.Pipe pipe item) = refl
+value_stamp program r (origins.Timer timer deadline) = refl
+
+fetch_stamp : (program : Program) (r : TaskMachine) (word : ℕ) → (after_fetch program r (instr_of (decoded word))).stamp ≡ r.stamp
+fetch_stamp program r word = act_stamp program r (act_of (instr_of (decoded word)) (given_by r) (cpu_of r.execution))
+
+resume_stamp : (program : Program) (r : TaskMachine) (late : Bool) (word : ℕ) → (after_resume program r late word).stamp ≡ r.stamp
+resume_stamp program r true word = refl
+resume_stamp program r false word = fetch_stamp program r word
+
+written_stamp : (program : Program) (r : TaskMachine) (s : Sending) (taken written : ℕ) → (after_written program r s taken written).stamp ≡ r.stamp
+written_stamp program r s taken written =
+    either_stamp (has_room (pipe_def program s.pipe).places written taken) r (at_phase r (StoreItem s written))
+    (proceed program r (advance_with (cpu_of r.execution) s.register 0)) refl (proceed_stamp program r (advance_with (cpu_of r.execution) s.register 0))
+
 after_stamp : (program : Program) (r : TaskMachine) (phase : Phase) (word : ℕ) → (after program r phase word).stamp ≡ r.stamp
-after_stamp program r WriteFirst word = refl
-after_stamp program r WriteOrigin word = refl
-after_stamp program r WriteValue word = event_stamp program r r.ending
-after_stamp program r Fetch word = act_stamp program r (act_of (instr_of (decoded word)) (given_by r) (cpu_of r.execution))
+after_stamp program r WriteValue word = value_stamp program r r.pick.event.origin
+after_stamp program r WriteTaken word = event_stamp program r r.ending
+after_stamp program r (WriteDue w) word = event_stamp program r r.ending
+after_stamp program r Resume word = resume_stamp program r (is_late program r) word
+after_stamp program r Fetch word = fetch_stamp program r word
 after_stamp program r (ReadState a n) word = proceed_stamp program r (advance_with (cpu_of r.execution) a (word % 2 ^ 32))
 after_stamp program r (WriteState n v) word = proceed_stamp program r (advance (cpu_of r.execution))
 after_stamp program r (ReadCount v) word = either_stamp (nat_lt word (thread_def program r.pick.thread.0).log) r (at_phase r (StoreLog word v)) (trap r) refl refl
-after_stamp program r (StoreLog n v) word = refl
 after_stamp program r (WriteCount n) word = proceed_stamp program r (advance (cpu_of r.execution))
-after_stamp program r WriteNext word = refl
-after_stamp program r WriteFinished word = refl
-after_stamp program r ReadTotal word = refl
-after_stamp program r (WriteTotal n) word = refl
-after_stamp program r WriteStamp word = refl
-after_stamp program r StoreCommit word = refl
-after_stamp program r (StoreAck source count) word = refl
-after_stamp program r StoreEmpty word = refl
-after_stamp program r Over word = refl
+after_stamp program r (ReadWritten s taken) word = written_stamp program r s taken word
+after_stamp program r (WriteWritten s written) word = proceed_stamp program r (advance_with (cpu_of r.execution) s.register 1)
+after_stamp program r (WritePeriod timer period) word = proceed_stamp program r (advance (cpu_of r.execution))
+after_stamp program r (WriteStopped timer) word = proceed_stamp program r (advance (cpu_of r.execution))
+after_stamp program r _ word = refl
 
 action_stamp : (program : Program) (r : TaskMachine) (a : Action) (word : ℕ) → (after_action program r a word).stamp ≡ r.stamp
 action_stamp program r (Put w v) word =

@@ -55,7 +55,7 @@ source_stands : (s : Setup) (count : ℕ) (b : Board) (i : ℕ) → IsSetup s �
 source_stands s count b i g h lt =
     let bg = background_of s count b g h in
     let known = g.accepted.sources i lt in
-    let queued = (bg.0.sound.threads (source_thread s.program i) known).queued in
+    let queued = (bg.sound.threads (source_thread s.program i) known).queued in
     let told = tells (sides s) (seen (memory s b) (state s b) (row_of b)) i (within s g) lt h.kept in
     let a : ℕ = memory s b (Src i) % 2 ^ 32 in
     let held : List Event = (thread_of (state s b) (source_thread s.program i)).held in
@@ -79,6 +79,6 @@ board_stands s count b g h =
       legal = h.legal;
       stands = record {
         private = h.private;
-        shared = record { queues = bg.0.shared.queues; clock = h.clock; sources = λ i lt. source_stands s count b i g h lt };
+        shared = record { queues = bg.shared.queues; clock = h.clock; sources = λ i lt. source_stands s count b i g h lt };
       };
     }

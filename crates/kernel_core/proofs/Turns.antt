@@ -31,9 +31,8 @@ use Rattle.never_cut.specs.Entries.{readings_of}
 use Rattle.never_cut.specs.Journal.{noted, moved, MayNote, IsLegal, after}
 use Rattle.never_cut.specs.Stands.{StandsPrivate}
 use Rattle.never_cut.specs.Steps.{Background}
-use Rattle.never_cut.specs.Picked.{AreIdle}
 use Rattle.never_cut.proofs.Journals.{after_from-noted, IsLegalFrom-noted}
-use Rattle.never_cut.proofs.SoundStates.{sound_after, open_sound, open_idle}
+use Rattle.never_cut.proofs.SoundStates.{sound_after, open_sound}
 use Rattle.never_cut.proofs.Follows.{follow_private}
 use Rattle.kernel_core.specs.Kernel.{wants, takes, point_found}
 use Rattle.kernel_core.specs.Record.{with_kernel, with_source}
@@ -54,10 +53,10 @@ pub record Goes (s : Setup) (count : ℕ) (b next : Board) (cost : ℕ) : Type 0
   pub commits : (state s next).commits ≤ (state s b).commits + cost
 
 -- what is known beside the registers, on a board that holds
-pub background_of : (s : Setup) (count : ℕ) (b : Board) → IsSetup s → Holds s count b → Background s.program s.readings (memory s b) (state s b) × AreIdle (state s b)
+pub background_of : (s : Setup) (count : ℕ) (b : Board) → IsSetup s → Holds s count b → Background s.program s.readings (memory s b) (state s b)
 background_of s count b g h =
-    let sound = sound_after s.program s.readings (open_model s.program) (journal b) g.accepted g.plain g.short (open_sound s.program s.readings g.plain) (open_idle s.program) h.legal in
-    (record { accepted = g.accepted; plain = g.plain; private = h.private; shared = shared_of s (memory s b) (state s b) (row_of b) g sound.0 h.kept h.clock; sound = sound.0 }, sound.1)
+    let sound = sound_after s.program s.readings (open_model s.program) (journal b) g.accepted g.short (open_sound s.program s.readings g.accepted) h.legal in
+    record { accepted = g.accepted; private = h.private; shared = shared_of s (memory s b) (state s b) (row_of b) g sound h.kept h.clock; sound = sound }
 
 -- a board whose journal has at most one entry more
 pub goes_on : (s : Setup) (count : ℕ) (b next : Board) (o : Option Entry) (cost : ℕ) → Holds s count b → HasSize s count next → journal next ≡ noted (journal b) o → MayNote s.program s.readings (state s b) o →
@@ -129,11 +128,11 @@ kernel_goes s count b g h some room =
     let bg = background_of s count b g h in
     let a = wants s.program b.kernel in
     let word : ℕ = answer (memory s b) (wants s.program b.kernel) in
-    let on = kernel_on s (memory s b) (state s b) b.kernel g bg.0 room h.registers in
+    let on = kernel_on s (memory s b) (state s b) b.kernel g bg room h.registers in
     let there : is_valid (shape s) (place_of (wants s.program b.kernel)) ≡ true = valid s.program (place_of (wants s.program b.kernel)) on in
     let words : memory s (turned s b (answer (memory s b) (wants s.program b.kernel))) ≡ perform (memory s b) (wants s.program b.kernel) =
     performed_there (shape s) b.words (wants s.program b.kernel) there (rw h.size.words (below s.program (place_of (wants s.program b.kernel)) on)) in
-    let step = kernel_steps s (memory s b) (state s b) (row_of b) b.kernel g bg.0 bg.1 h.registers in
+    let step = kernel_steps s (memory s b) (state s b) (row_of b) b.kernel g bg room h.registers in
     let p : KernelPoint = point_found s.program b.kernel (answer (memory s b) (wants s.program b.kernel)) in
     let o : Option Entry = entry_of_point (point_found s.program b.kernel (answer (memory s b) (wants s.program b.kernel))) in
     let next : Model = moved s.program s.readings (state s b) (entry_of_point (point_found s.program b.kernel (answer (memory s b) (wants s.program b.kernel)))) in
@@ -183,8 +182,8 @@ source_made_goes s count b i g h some lt left =
     let board : Board = source_turned s b i (at_address (shape s) (access (sides s) i (row_of b i))) (answer (memory s b) (access (sides s) i (row_of b i))) in
     let words : memory s board ≡ perform (memory s b) (access (sides s) i (row_of b i)) =
     performed_there (shape s) b.words (access (sides s) i (row_of b i)) there (rw h.size.words (below s.program (place_of (access (sides s) i (row_of b i))) on)) in
-    let known : i < length (state s b).sources = rw bg.0.sound.shape.sources lt in
-    let fed : source_thread s.program i < length (state s b).threads = rw bg.0.sound.shape.threads (g.accepted.sources i lt) in
+    let known : i < length (state s b).sources = rw bg.sound.shape.sources lt in
+    let fed : source_thread s.program i < length (state s b).threads = rw bg.sound.shape.threads (g.accepted.sources i lt) in
     let there_row : i < length b.rows = rw h.size.rows lt in
     let step : SourceStep (sides s) i (seen (memory s b) (state s b) (row_of b)) (seen (perform (memory s b) (access (sides s) i (row_of b i))) next (row_of board)) =
     record {

@@ -10,7 +10,6 @@ use Rattle.never_cut.specs.declared.model.Model.{Model}
 use Rattle.never_cut.specs.Journal.{after, IsLegal}
 use Rattle.never_cut.specs.Stands.{StandsPrivate, Stands}
 use Rattle.never_cut.specs.Within.{AreShort}
-use Rattle.never_cut.specs.Plain.{IsPlain}
 use Rattle.reboot.specs.Boot.{boot_stamp}
 use Rattle.reboot.specs.Knows.{BootHolds}
 use Rattle.priority_sched.specs.Scan.{scan_result}
@@ -23,10 +22,9 @@ use Rattle.kernel_core.specs.Record.{charge_of}
 use Rattle.kernel_core.specs.Board.{Setup, Board, shape, sides, journal, row_of}
 use Rattle.kernel_core.specs.Views.{seen}
 
--- an accepted program that the board runs today, with readings within the limits
+-- an accepted program, with readings within the limits
 pub record IsSetup (s : Setup) : Type 0 where
   pub accepted : IsAccepted s.program
-  pub plain : IsPlain s.program
   pub code : HasCode s.program
   pub short : AreShort s.readings
 

@@ -2,7 +2,6 @@
 ghost use Rattle.std.specs.Prelude.{◌≡◌, ◌+◌, ◌<◌, ◌≤◌, length, map, Some};
 ghost use Rattle.ink_layout.specs.Points.{entry_of_point};
 ghost use Rattle.ink_layout.specs.Image.{IsFirstImage};
-ghost use Rattle.never_cut.specs.Plain.{IsPlain};
 ghost use Rattle.task_run.specs.Knows.{HasCode};
 ghost use Rattle.push_core.specs.Table.{IsLeft, want_of};
 ghost use Rattle.source_laws.specs.Rows.{port_of};
@@ -56,7 +55,6 @@ impl Core {
     // The core of a job whose parts are as they are before the first charge.
     pub(crate) fn begin(job: Job, start: Start) -> Core
         requires job { IsJob job }
-        requires plain { IsPlain job.program }
         requires plan { start.plan.accepted ≡ job.program }
         requires image { IsFirstImage job.program start.fram }
         requires pushers { AreFirstPushers job (length job.program.sources) start.pushers.items }

@@ -3,7 +3,6 @@ ghost use Rattle.std.specs.Prelude.{◌≡◌, ◌<◌, length, IfOk};
 ghost use Rattle.push_core.specs.Table.{IsPort};
 ghost use Rattle.source_laws.specs.Rows.{port_of};
 ghost use Rattle.ink_layout.specs.Image.{IsFirstImage};
-ghost use Rattle.never_cut.specs.Plain.{IsPlain};
 ghost use Rattle.task_run.specs.Knows.{HasCode};
 ghost use Rattle.kernel_core.specs.Board.{sides, first_board};
 ghost use Rattle.kernel_core.specs.Holds.{BoardStands};
@@ -25,7 +24,6 @@ use std::alloc::Global;
 /// The board of a job before its first charge: the words of the first image, no entry of a journal, and room for the entries of every
 /// charge and every turn that the job lists. No call of the core takes memory after it.
 pub fn prepare(alloc: Global, job: Job) -> Result<Core, NoMemory>
-    requires { IsPlain job.program }
     ensures job { IfOk result (λ core. core.job ≡ job) }
     ensures image { IfOk result (λ core. IsFirstImage job.program core.board.words) }
     ensures board { IfOk result (λ core. core.board ≡ first_board (setup_of job) core.board.words (length job.charges)) }

@@ -10,7 +10,7 @@ use Rattle.kernel_core.proofs.Starts.{first_core, first_fields}
 use Rattle.kernel_core.proofs.board.Core.begin.Goals as goal
 
 is_setup : (c : goal.After-boot) → IsSetup (setup_of c.args.job)
-is_setup c = job_setup c.args.job c.requires.job c.requires.plain (subst (λ (p : Program). HasCode p) (c.program.ensures.same ∙ c.requires.plan) c.read_code_back.ensures)
+is_setup c = job_setup c.args.job c.requires.job (subst (λ (p : Program). HasCode p) (c.program.ensures.same ∙ c.requires.plan) c.read_code_back.ensures)
 
 pub invariant_of-result : goal.invariant_of-result
 invariant_of-result c = (
