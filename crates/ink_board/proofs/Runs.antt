@@ -6,7 +6,6 @@ use Rattle.ink_base.specs.declared.entry.Entry.TheVariants.{Scan}
 use Rattle.task_isa.specs.declared.program.Program.{Program}
 use Rattle.ink_layout.specs.Image.{IsFirstImage}
 use Rattle.power_trace.specs.Job.{JobParts, IsJob}
-use Rattle.never_cut.specs.Plain.{IsPlain}
 use Rattle.never_cut.specs.declared.model.Model.{Model}
 use Rattle.never_cut.specs.State.{open_model}
 use Rattle.never_cut.specs.Entries.{Readings, Legal, effect}
@@ -27,12 +26,12 @@ use Rattle.kernel_core.proofs.Growth.{run_grows, run_few, run_legal, run_journal
 use Rattle.kernel_core.proofs.Scanned.{run_scanned}
 use Rattle.ink_board.specs.Run.{board_run, entries_of, journal_in, IsRunOf}
 
-module _ (job : JobParts) (first : List ℕ) (r : RunRecord) (is : IsJob job) (plain : IsPlain job.program) (code : HasCode job.program) (image : IsFirstImage job.program first) (charges : r.charges ≡ (board_run job first).charges) where
+module _ (job : JobParts) (first : List ℕ) (r : RunRecord) (is : IsJob job) (code : HasCode job.program) (image : IsFirstImage job.program first) (charges : r.charges ≡ (board_run job first).charges) where
   journal_same : journal_in r ≡ journal (board_run job first)
   journal_same = ap (λ (l : List ChargeRecord). flat_map entries_of l) charges ∙ sym (run_journal (setup_of job) first job.charges)
 
   legal_in : IsLegal job.program job.readings (journal_in r)
-  legal_in = subst (λ (l : List Entry). IsLegal job.program job.readings l) (sym journal_same) (run_legal job first is plain code image)
+  legal_in = subst (λ (l : List Entry). IsLegal job.program job.readings l) (sym journal_same) (run_legal job first is code image)
 
   pub run_of : r.job ≡ job → r.words ≡ (board_run job first).words → IsRunOf job r
   run_of same words = record {
@@ -41,10 +40,10 @@ module _ (job : JobParts) (first : List ℕ) (r : RunRecord) (is : IsJob job) (p
     image = image;
     charges = charges;
     words = words;
-    stands = λ n. job_prefixes_stand job first is plain code image n;
-    grows = λ n. let g = run_grows job first is plain code image n in (g.0, journal_same ∙ g.1);
+    stands = λ n. job_prefixes_stand job first is code image n;
+    grows = λ n. let g = run_grows job first is code image n in (g.0, journal_same ∙ g.1);
     legal = legal_in;
-    few = subst (λ (l : List Entry). length l < 2 ^ 32) (sym journal_same) (run_few job first is plain code image);
+    few = subst (λ (l : List Entry). length l < 2 ^ 32) (sym journal_same) (run_few job first is code image);
     in_order = readings_in_order job.program job.readings (journal_in r) legal_in;
     each_once = each_event_once job.program job.readings (journal_in r) legal_in;
     states = states_by_commits job.program job.readings (journal_in r);

@@ -2,5 +2,5 @@ pub mod Words
 pub mod Exits
 pub mod Outside
 pub mod Run
-pub mod Later
+pub mod Made
 pub mod Answers

@@ -48,6 +48,6 @@ pub record IsRunOf (job : JobParts) (r : RunRecord) : Type 0 where
   pub stamps : StampsByCommits job.program job.readings (journal_in r)
   pub scanned : ChargesAreScanned r.charges
 
--- the text of a record: the outputs that its journal committed, and the summary
-abbrev pub text_of : RunRecord → List ℕ
-text_of r = report.run_text r.job.program (after r.job.program r.job.readings (journal_in r)) (journal_in r) (length r.job.charges)
+-- the text of a run: the outputs that its journal committed, and the summary
+abbrev pub run_text_of : RunRecord → List ℕ
+run_text_of r = report.run_text r.job.program (after r.job.program r.job.readings (journal_in r)) (journal_in r) (length r.job.charges)

@@ -1,25 +1,24 @@
 //! The top call.
 
 ghost use Rattle.std.specs.Prelude.{◌≡◌, map, string_bytes, Some, None, IfOk, IfErr};
-ghost use Rattle.ink_board.specs.declared.finish.Record.TheVariants.{Run};
-ghost use Rattle.ink_board.specs.Run.{text_of};
-ghost use Rattle.ink_board.specs.Answers.{OfText, RanText, StopsRun, Wrote, Tells};
+ghost use Rattle.ink_board.specs.Made.{Makes, text_of};
+ghost use Rattle.ink_board.specs.Answers.{OfText, StopsRun, Wrote, TellsMode, Tells};
 
-use crate::finish::{Finish, Record};
-use crate::run::{Ran, run_text};
-use crate::words::is_run;
+use crate::finish::Finish;
+use crate::making::{Made, make};
+use crate::mode::Mode;
+use crate::words::mode_of;
 use ink_base::Status;
 use ink_io::{ReadAnswer, Sink, Source, read_job, write_all_text};
 use std::alloc::Global;
 
 /// Does what the words after the program's name say. `run` reads a job from the source, runs its board, and writes the text of the run to
-/// the sink.
+/// the sink; `print` reads a job and writes the canonical text of its program.
 ///
 /// `Usage`: the words are no command, and nothing was read. `ReadFault`: a read failed. `TooLong`: the source gave a byte more than a job may
-/// have. `Refused`: the bytes to the end of the source have a fault, and this is the first one with its line; or they have none, and the
-/// board doesn't run their program yet, which is `NotYet` at the first line that declares what it doesn't run. `NoMemory`: memory was refused.
-/// After all of these nothing was written, and nothing is kept. `Done`: the board ran the job that the bytes are; its record is kept, and
-/// the whole text was written. `WriteFault`: the same, but a write failed, and a part of the text from its beginning was written.
+/// have. `Refused`: the bytes to the end of the source have a fault, and this is the first one with its line. `NoMemory`: memory was refused.
+/// After all of these nothing was written, and nothing is kept. `Done`: the mode's record for the job that the bytes are is kept, and its
+/// whole text was written. `WriteFault`: the same, but a write failed, and a part of the text from its beginning was written.
 pub fn board<S: Source, K: Sink>(
     alloc: Global,
     words: &[String],
@@ -33,12 +32,9 @@ pub fn board<S: Source, K: Sink>(
         (record { held = K.held sink.new; faults = K.faults sink.new })
         result.status result.kept }
 {
-    if !is_run(words) {
-        return stopped(Status::Usage);
-    }
-    match read_and_run(alloc, source) {
-        Ok(ran) => written(sink, ran),
-        Err(status) => stopped(status),
+    match mode_of(words) {
+        Some(mode) => done(alloc, mode, source, sink),
+        None => stopped(Status::Usage),
     }
 }
 
@@ -48,37 +44,52 @@ fn stopped(status: Status) -> Finish
     Finish { status, kept: None }
 }
 
-fn read_and_run<S: Source>(alloc: Global, source: &mut S) -> Result<Ran, Status>
-    ensures record { IfOk result (λ ran. OfText
+// What a mode does.
+fn done<S: Source, K: Sink>(alloc: Global, mode: Mode, source: &mut S, sink: &mut K) -> Finish
+    ensures told { TellsMode mode
         (record { left = S.left source.old; faults = S.faults source.old; reads = S.reads source.old })
         (record { left = S.left source.new; faults = S.faults source.new; reads = S.reads source.new })
-        (λ text. RanText text ran.record)) }
-    ensures text { IfOk result (λ ran. ran.text.items ≡ text_of ran.record) }
+        (record { held = K.held sink.old; faults = K.faults sink.old })
+        (record { held = K.held sink.new; faults = K.faults sink.new })
+        result.status result.kept }
+{
+    match read_and_make(alloc, mode, source) {
+        Ok(made) => written(sink, made),
+        Err(status) => stopped(status),
+    }
+}
+
+fn read_and_make<S: Source>(alloc: Global, mode: Mode, source: &mut S) -> Result<Made, Status>
+    ensures record { IfOk result (λ made. OfText
+        (record { left = S.left source.old; faults = S.faults source.old; reads = S.reads source.old })
+        (record { left = S.left source.new; faults = S.faults source.new; reads = S.reads source.new })
+        (λ text. Makes mode text made.record)) }
+    ensures text { IfOk result (λ made. made.text.items ≡ text_of made.record) }
     ensures stops { IfErr result (StopsRun
         (record { left = S.left source.old; faults = S.faults source.old; reads = S.reads source.old })
         (record { left = S.left source.new; faults = S.faults source.new; reads = S.reads source.new })) }
 {
     match read_job(alloc, source) {
-        Ok(text) => run_text(alloc, text.as_slice()),
+        Ok(text) => make(alloc, mode, text.as_slice()),
         Err(ReadAnswer::ReadFault) => Err(Status::ReadFault),
         Err(ReadAnswer::TooLong) => Err(Status::TooLong),
         Err(ReadAnswer::NoMemory) => Err(Status::NoMemory),
     }
 }
 
-// Writes the text of a run.
-fn written<K: Sink>(sink: &mut K, ran: Ran) -> Finish
-    requires { ran.text.items ≡ text_of ran.record }
-    ensures kept { result.kept ≡ Some (Run ran.record) }
+// Writes the text of what was made.
+fn written<K: Sink>(sink: &mut K, made: Made) -> Finish
+    requires { made.text.items ≡ text_of made.record }
+    ensures kept { result.kept ≡ Some made.record }
     ensures wrote { Wrote (record { held = K.held sink.old; faults = K.faults sink.old })
-        (record { held = K.held sink.new; faults = K.faults sink.new }) (text_of ran.record) result.status }
+        (record { held = K.held sink.new; faults = K.faults sink.new }) (text_of made.record) result.status }
 {
-    let status = match write_all_text(sink, ran.text.as_slice()) {
+    let status = match write_all_text(sink, made.text.as_slice()) {
         Ok(()) => Status::Done,
         Err(_) => Status::WriteFault,
     };
     Finish {
         status,
-        kept: Some(Record::Run(ran.record)),
+        kept: Some(made.record),
     }
 }

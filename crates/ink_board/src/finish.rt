@@ -2,14 +2,18 @@
 
 use ink_base::Status;
 use kernel_core::RunRecord;
+use prog_check::Accepted;
 
-/// What a mode leaves behind: the record of the board run.
+/// What a mode leaves behind.
 #[derive(Debug, Drop)]
 pub enum Record {
+    /// The record of the board that was run.
     Run(RunRecord),
+    /// The program that was printed.
+    Print(Accepted),
 }
 
-/// The status of a call, and the record of what it ran; none where it ran nothing.
+/// The status of a call, and the record of its mode; none where nothing was made of a job.
 #[derive(Debug, Drop)]
 pub struct Finish {
     pub status: Status,

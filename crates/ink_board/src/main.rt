@@ -1,12 +1,12 @@
-//! The program `ink_board`: a job's text in, the outputs that its board committed and a summary out.
+//! The program `ink_board`: a job's text in, the text of its run, or of its program, out.
 #![tactic(auto)]
 
 mod board;
 mod complaint;
 mod finish;
-mod later;
+mod making;
+mod mode;
 mod report;
-mod run;
 #[cfg(test)]
 mod tests;
 mod words;

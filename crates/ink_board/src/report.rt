@@ -3,7 +3,7 @@
 ghost use Rattle.std.specs.Prelude.{◌≡◌, IfOk};
 ghost use Rattle.std.specs.List.{flat_map};
 ghost use Rattle.never_cut.specs.Journal.{after};
-ghost use Rattle.ink_board.specs.Run.{IsRunOf, text_of, journal_in, entries_of};
+ghost use Rattle.ink_board.specs.Run.{IsRunOf, run_text_of, journal_in, entries_of};
 
 use ink_base::{Entry, NoMemory};
 use ink_report::{Flags, run_text};
@@ -14,7 +14,7 @@ use std::alloc::Global;
 /// The text of the state after the record's journal: its outputs and the summary.
 pub fn report(alloc: Global, run: &RunRecord) -> Result<Vec<u8>, NoMemory>
     requires { IsRunOf run.now.job run.now }
-    ensures { IfOk result (λ text. text.items ≡ text_of run.now) }
+    ensures { IfOk result (λ text. text.items ≡ run_text_of run.now) }
 {
     let entries = all_entries(alloc, run.charges.as_slice())?;
     let model = state_after(alloc, run, entries.as_slice())?;

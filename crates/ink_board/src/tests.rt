@@ -8,8 +8,11 @@ use kernel_core::RunRecord;
 use std::process::Abort;
 use std::test::Fail;
 
+mod devices;
 mod limits;
+mod prints;
 mod programs;
+mod threads;
 
 /// A job of one thread that adds up its readings, and what its run prints.
 #[derive(Clone, Copy)]
@@ -68,13 +71,21 @@ fn run_text<R: AllocGlobal>(rt: &R, text: &str, sink: &mut MemSink) -> Result<Fi
     Ok(board(alloc, words.as_slice(), &mut source, sink))
 }
 
+// The record of a run that was kept.
+fn run_kept(kept: Option<Record>) -> Option<RunRecord> {
+    match kept {
+        Some(Record::Run(record)) => Some(record),
+        _ => None,
+    }
+}
+
 fn run_case<R: Abort + AllocGlobal>(rt: &R, case: &Case<'_>) -> Result<RunRecord, Fail> {
     let mut sink = MemSink::new(rt.alloc(), 2000, 7, Vec::new(rt.alloc()))?;
     let text = text_of(rt, case)?;
     let finish = run_text(rt, text.as_str(), &mut sink)?;
     assert_eq!(rt; finish.status, Status::Done);
     assert_eq!(rt; sink.bytes(), case.printed.as_bytes());
-    let Some(Record::Run(record)) = finish.kept else {
+    let Some(record) = run_kept(finish.kept) else {
         panic!(rt; "no record is kept");
     };
     Ok(record)
@@ -441,7 +452,14 @@ fn a_job_has_at_most_4194304_bytes(rt: HostRuntime) -> Result<(), Fail> {
 #[test]
 fn other_words_are_no_command(rt: HostRuntime) -> Result<(), Fail> {
     let alloc = rt.alloc();
-    let commands: [&[&str]; 4] = [&[], &["fly"], &["run", "run"], &["run", "--json"]];
+    let commands: [&[&str]; 6] = [
+        &[],
+        &["fly"],
+        &["run", "run"],
+        &["run", "--json"],
+        &["print", "run"],
+        &["prints"],
+    ];
     for words in commands {
         let words = run_words(&rt, words)?;
         let mut source = MemSource::new(Vec::new(alloc), 100, [1].to_vec(alloc)?);

@@ -20,7 +20,11 @@ fn job_of<R: AllocGlobal>(
     Ok(text)
 }
 
-fn prints<R: Abort + AllocGlobal>(rt: &R, text: &str, printed: &str) -> Result<(), Fail> {
+pub(super) fn prints<R: Abort + AllocGlobal>(
+    rt: &R,
+    text: &str,
+    printed: &str,
+) -> Result<(), Fail> {
     let mut sink = MemSink::new(rt.alloc(), 2000, 7, Vec::new(rt.alloc()))?;
     let finish = run_text(rt, text, &mut sink)?;
     assert_eq!(rt; finish.status, Status::Done);
@@ -83,33 +87,6 @@ fn sums_wrap_at_32_bits(rt: HostRuntime) -> Result<(), Fail> {
 }
 
 #[test]
-fn what_the_board_does_not_run_yet_is_refused_after_all_faults(
-    rt: HostRuntime,
-) -> Result<(), Fail> {
-    let rest = "S0 7\n[power]\ncharge 0 S0*9 K*200\n";
-    // A chain of tasks, and a fault behind it.
-    let text = job_of(&rt, 8, 100, "jz r0 skip\nnext t\nskip:\n", rest)?;
-    is_refused(&rt, text.as_str(), 6, Cause::NotYet)?;
-    let text = job_of(
-        &rt,
-        8,
-        100,
-        "jz r0 skip\nnext t\nskip:\n",
-        "S0 7\n[power]\ncharge\n",
-    )?;
-    is_refused(&rt, text.as_str(), 13, Cause::Missing)?;
-
-    let program = "[program]\nthread expires priority 1 queue 2 state 1 log 8\n";
-    let task = "task t thread expires limit 3\ndone\nend\n[sensors]\n[power]\ncharge 0\n";
-    let text = format!(in rt.alloc(); "{program}timer beat thread expires off\n{task}")?;
-    is_refused(&rt, text.as_str(), 3, Cause::NotYet)?;
-    let text = format!(in rt.alloc(); "{program}{task}")?;
-    let printed =
-        "thread expires served 0 trapped 0 expired 0 held 0\nclock 0 commits 0 charges 1\n";
-    prints(&rt, text.as_str(), printed)
-}
-
-#[test]
 fn a_fault_of_each_section_is_told_with_its_line(rt: HostRuntime) -> Result<(), Fail> {
     let whole = text_of(&rt, &sum("S0 7\n", "charge 0 S0*9 K*200\n", FIRST_RUN))?;
     // The line, what stands there in its place, and the fault.
@@ -128,8 +105,15 @@ fn a_fault_of_each_section_is_told_with_its_line(rt: HostRuntime) -> Result<(), 
             Cause::BadNumber,
         ),
         (3, "source b", 3, Cause::UnknownWord),
+        (
+            3,
+            "thread a priority 1 queue 2 state 1 log 8",
+            3,
+            Cause::Duplicate,
+        ),
         (5, "li r16 0", 5, Cause::UnknownWord),
         (8, "add r2 r2", 8, Cause::Missing),
+        (9, "st r2 r1 # é", 9, Cause::BadByte),
         (11, "jmp away", 11, Cause::BadTarget),
         (11, "ev r0", 4, Cause::Missing),
         (14, "S0 4294967296", 14, Cause::OverLimit),
