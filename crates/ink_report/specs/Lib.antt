@@ -1,2 +1,5 @@
+pub mod Lines
+pub mod Journal
+pub mod Json
 pub mod Report
 pub mod Conditions

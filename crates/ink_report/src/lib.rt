@@ -2,6 +2,8 @@
 #![tactic(auto)]
 
 mod flags;
+mod journal;
+mod json;
 mod numbers;
 mod outputs;
 mod report;

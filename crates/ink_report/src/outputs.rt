@@ -2,7 +2,7 @@
 
 ghost use Rattle.std.specs.Prelude.{◌≡◌, ◌++◌, ◌<◌, All, length, OnOk};
 ghost use Rattle.ink_base.specs.declared.output.Output.{Output};
-ghost use Rattle.ink_report.specs.Report.{output_line, output_lines};
+ghost use Rattle.ink_report.specs.Lines.{output_line, output_lines};
 
 use crate::numbers::put_number;
 use crate::threads::name_of;

@@ -1,7 +1,7 @@
 //! The lines of sources.
 
 ghost use Rattle.std.specs.Prelude.{◌≡◌, ◌++◌, ◌<◌, length, count_by, OnOk};
-ghost use Rattle.ink_report.specs.Report.{each_below, is_push, is_refusal, source_line, settled_line};
+ghost use Rattle.ink_report.specs.Lines.{each_below, is_push, is_refusal, source_line, settled_line};
 
 use crate::numbers::put_count;
 use ink_base::{Entry, NoMemory};
@@ -61,7 +61,7 @@ fn put_settled(
 }
 
 // The number of readings of a source that were pushed.
-fn pushes(entries: &[Entry], source: usize) -> usize
+pub fn pushes(entries: &[Entry], source: usize) -> usize
     ensures { result ≡ count_by (is_push source) entries.now }
 {
     let mut count = 0;
@@ -74,7 +74,7 @@ fn pushes(entries: &[Entry], source: usize) -> usize
 }
 
 // How often a source found its queue full.
-fn refusals(entries: &[Entry], source: usize) -> usize
+pub fn refusals(entries: &[Entry], source: usize) -> usize
     ensures { result ≡ count_by (is_refusal source) entries.now }
 {
     let mut count = 0;

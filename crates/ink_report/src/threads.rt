@@ -2,7 +2,7 @@
 
 ghost use Rattle.std.specs.Prelude.{◌≡◌, ◌++◌, ◌<◌, length, OnOk};
 ghost use Rattle.prog_check.specs.Lookup.{thread_def};
-ghost use Rattle.ink_report.specs.Report.{each_below, thread_line, account_line};
+ghost use Rattle.ink_report.specs.Lines.{each_below, thread_line, account_line};
 
 use crate::numbers::put_count;
 use ink_base::NoMemory;

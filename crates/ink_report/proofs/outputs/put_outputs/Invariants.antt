@@ -1,5 +1,5 @@
 use Rattle.std.proofs.Common.{◌≡◌, ◌++◌, take}
-use Rattle.ink_report.specs.Report.{output_lines}
+use Rattle.ink_report.specs.Lines.{output_lines}
 use Rattle.ink_report.proofs.outputs.put_outputs.Given as goal
 
 abbrev pub invariant-loop-output : goal.invariant-loop-output

@@ -1,5 +1,5 @@
 use Rattle.std.proofs.Common.{◌≡◌, count_by, take}
-use Rattle.ink_report.specs.Report.{is_push}
+use Rattle.ink_report.specs.Lines.{is_push}
 use Rattle.ink_report.proofs.sources.pushes.Given as goal
 
 abbrev pub invariant-loop-entry : goal.invariant-loop-entry

@@ -1,5 +1,5 @@
 use Rattle.std.proofs.Common.{◌≡◌, ◌++◌}
-use Rattle.ink_report.specs.Report.{each_below, source_line}
+use Rattle.ink_report.specs.Lines.{each_below, source_line}
 use Rattle.ink_report.proofs.sources.put_sources.Given as goal
 
 abbrev pub invariant-loop-i : goal.invariant-loop-i

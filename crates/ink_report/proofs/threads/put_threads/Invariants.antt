@@ -1,5 +1,5 @@
 use Rattle.std.proofs.Common.{◌≡◌, ◌++◌}
-use Rattle.ink_report.specs.Report.{each_below, thread_line}
+use Rattle.ink_report.specs.Lines.{each_below, thread_line}
 use Rattle.ink_report.proofs.threads.put_threads.Given as goal
 
 abbrev pub invariant-loop-t : goal.invariant-loop-t
