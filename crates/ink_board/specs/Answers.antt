@@ -7,9 +7,9 @@ use Rattle.ink_base.specs.declared.status.Status.TheVariants.{Done, Usage, Refus
 use Rattle.ink_io.specs.Bytes.{TookCount, TookAtMost, AppendsPrefix}
 use Rattle.ink_io.specs.Counts.{Rose}
 use Rattle.power_trace.specs.Parse.{job_at}
-use Rattle.ink_board.specs.declared.mode.Mode.{Mode}
+use Rattle.ink_board.specs.declared.command.Command.{Command}
 use Rattle.ink_board.specs.declared.finish.Record.{Record}
-use Rattle.ink_board.specs.Words.{mode_of}
+use Rattle.ink_board.specs.Words.{command_of}
 use Rattle.ink_board.specs.Outside.{SourceState, SinkState, GaveText}
 use Rattle.ink_board.specs.Made.{Makes, text_of}
 
@@ -23,7 +23,7 @@ StopsText text _ = ⊥
 abbrev pub OfText : SourceState → SourceState → (List ℕ → Type 0) → Type 0
 OfText before now P = (text : List ℕ) × GaveText before now text × P text
 
--- why a mode stopped before its text was made
+-- why a command stopped before its text was made
 abbrev pub StopsRun : SourceState → SourceState → Status → Type 0
 StopsRun before now ReadFault = Rose before.faults now.faults × TookAtMost before.left now.left 4194304
 StopsRun before now TooLong = (now.faults ≡ before.faults) × TookCount before.left now.left 4194305
@@ -37,10 +37,11 @@ Wrote before now text Done = (now.faults ≡ before.faults) × Appends before.he
 Wrote before now text WriteFault = Rose before.faults now.faults × AppendsPrefix before.held now.held text
 Wrote before now text _ = ⊥
 
--- What a mode tells by its status and by what it kept. Where it kept nothing, it made and wrote nothing.
-abbrev pub TellsMode : Mode → (before now : SourceState) → (sink sink_now : SinkState) → Status → Option Record → Type 0
-TellsMode mode before now sink sink_now status None = StopsRun before now status × (sink_now ≡ sink)
-TellsMode mode before now sink sink_now status (Some made) = OfText before now (λ text. Makes mode text made) × Wrote sink sink_now (text_of made) status
+-- What a command tells by its status and by what it kept. Where it kept nothing, it made and wrote nothing.
+abbrev pub TellsCommand : Command → (before now : SourceState) → (sink sink_now : SinkState) → Status → Option Record → Type 0
+TellsCommand command before now sink sink_now status None = StopsRun before now status × (sink_now ≡ sink)
+TellsCommand command before now sink sink_now status (Some made) =
+    OfText before now (λ text. Makes command text made) × Wrote sink sink_now (text_of command made) status
 
 -- Words that are no command do nothing at all.
 abbrev pub DoesNothing : (before now : SourceState) → (sink sink_now : SinkState) → Status → Option Record → Type 0
@@ -48,7 +49,7 @@ DoesNothing before now sink sink_now status kept = (status ≡ Usage) × (kept �
 
 -- What a call tells, by its words.
 abbrev pub Tells : List Word → (before now : SourceState) → (sink sink_now : SinkState) → Status → Option Record → Type 0
-Tells words before now sink sink_now status kept = elim (mode_of words) [
+Tells words before now sink sink_now status kept = elim (command_of words) [
   | None ↦ DoesNothing before now sink sink_now status kept
-  | Some mode ↦ TellsMode mode before now sink sink_now status kept
+  | Some command ↦ TellsCommand command before now sink sink_now status kept
 ]

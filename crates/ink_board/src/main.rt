@@ -2,10 +2,10 @@
 #![tactic(auto)]
 
 mod board;
+mod command;
 mod complaint;
 mod finish;
 mod making;
-mod mode;
 mod report;
 #[cfg(test)]
 mod tests;

@@ -403,6 +403,36 @@ fn the_count_of_a_source_goes_from_63_to_64_while_it_is_cut(rt: HostRuntime) -> 
 }
 
 #[test]
+fn flags_show_the_journal_and_the_summary_as_json(rt: HostRuntime) -> Result<(), Fail> {
+    let alloc = rt.alloc();
+    let text = text_of(&rt, &sum("S0 7\n", "charge 0 S0*9 K*79\n", FIRST_RUN))?;
+    let words_and_texts: [(&[&str], &str); 3] = [
+        (
+            &["run", "--journal"],
+            "1 a 7\nthread a served 1 trapped 0 expired 0 held 0\nsource S0 next 1 pushed 1 refused 0\nclock 0 commits 1 charges 1\n[journal]\nTick 0\nPush S0\nScan\nCommit a\nRelease a\n",
+        ),
+        (
+            &["--json", "run"],
+            "1 a 7\n{\"charges\":1,\"clock\":0,\"commits\":1,\"sources\":[{\"next\":1,\"pushed\":1,\"refused\":0}],\"threads\":[{\"expired\":0,\"held\":0,\"name\":\"a\",\"served\":1,\"trapped\":0}]}\n",
+        ),
+        (
+            &["--journal", "run", "--json"],
+            "1 a 7\n{\"charges\":1,\"clock\":0,\"commits\":1,\"sources\":[{\"next\":1,\"pushed\":1,\"refused\":0}],\"threads\":[{\"expired\":0,\"held\":0,\"name\":\"a\",\"served\":1,\"trapped\":0}]}\n[journal]\nTick 0\nPush S0\nScan\nCommit a\nRelease a\n",
+        ),
+    ];
+    for (words, printed) in words_and_texts {
+        let words = run_words(&rt, words)?;
+        let bytes = Vec::from_slice(alloc, text.as_bytes())?;
+        let mut source = SureSource::new(bytes);
+        let mut sink = MemSink::new(alloc, 2000, 7, Vec::new(alloc))?;
+        let finish = board(alloc, words.as_slice(), &mut source, &mut sink);
+        assert_eq!(rt; finish.status, Status::Done);
+        assert_eq!(rt; sink.bytes(), printed.as_bytes());
+    }
+    Ok(())
+}
+
+#[test]
 fn a_read_that_fails_runs_nothing(rt: HostRuntime) -> Result<(), Fail> {
     let alloc = rt.alloc();
     let text = text_of(&rt, &sum("S0 7\n", "charge 0 S0*9 K*200\n", FIRST_RUN))?;
@@ -452,13 +482,17 @@ fn a_job_has_at_most_4194304_bytes(rt: HostRuntime) -> Result<(), Fail> {
 #[test]
 fn other_words_are_no_command(rt: HostRuntime) -> Result<(), Fail> {
     let alloc = rt.alloc();
-    let commands: [&[&str]; 6] = [
+    let commands: [&[&str]; 10] = [
         &[],
         &["fly"],
         &["run", "run"],
-        &["run", "--json"],
+        &["run", "--json", "--json"],
+        &["--journal"],
+        &["run", "--seed", "3"],
+        &["run", "--"],
         &["print", "run"],
-        &["prints"],
+        &["print", "--json"],
+        &["soak"],
     ];
     for words in commands {
         let words = run_words(&rt, words)?;

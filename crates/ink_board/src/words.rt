@@ -1,29 +1,30 @@
 //! The words of the command line.
 
 ghost use Rattle.std.specs.Prelude.{◌≡◌, map, string_bytes};
-ghost use Rattle.ink_board.specs.Words.{mode_named, mode_of};
+ghost use Rattle.ink_board.specs.Words.{asked_from, command_of};
 
-use crate::mode::Mode;
+use crate::command::{Asked, Command};
 
-/// The mode that the words name: a command is the one word `run` or `print`. None exactly where the words are no command.
-pub fn mode_of(words: &[String]) -> Option<Mode>
-    ensures { result ≡ mode_of (map string_bytes words.now) }
+/// What the words ask for. A command is the name of a mode and flags, in any order, each at most once: `run` may have `--journal` and
+/// `--json`, `print` has none. None exactly where the words are no command.
+pub fn command_of(words: &[String]) -> Option<Command>
+    ensures { result ≡ command_of (map string_bytes words.now) }
 {
-    match words {
-        [word] => mode_named(word.as_str()),
-        _ => None,
+    match asked_from(Asked::nothing(), words) {
+        Some(asked) => asked.command(),
+        None => None,
     }
 }
 
-// The mode of this name.
-fn mode_named(word: &str) -> Option<Mode>
-    ensures { result ≡ mode_named word.now }
+// What was asked for with these words, too. Each word is good once, so this ends after a few of them.
+fn asked_from(asked: Asked, words: &[String]) -> Option<Asked>
+    ensures { result ≡ asked_from asked (map string_bytes words.now) }
 {
-    if word == "run" {
-        Some(Mode::Run)
-    } else if word == "print" {
-        Some(Mode::Print)
-    } else {
-        None
+    match words {
+        [] => Some(asked),
+        [word, rest @ ..] => match asked.with(word.as_str()) {
+            Some(next) => asked_from(next, rest),
+            None => None,
+        },
     }
 }
