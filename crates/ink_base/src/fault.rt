@@ -27,8 +27,6 @@ pub enum Cause {
     BadOwner,
     /// A section header that is not the next one.
     BadSection,
-    /// A form that is accepted later.
-    NotYet,
 }
 
 /// The first fault of a text: its line, counted from 1, and its cause.

@@ -1,22 +1,19 @@
 -- What a commit leaves of queues and sources: a queue whose event is finished, or all as it was.
-use Rattle.std.proofs.Common.{◌≡◌, ℕ, ◌+◌, ◌<◌, Bool, true, false, List, ◌++◌, length, map, get_or, set, Option, Some, None, refl, sym, ap, ◌∙◌, subst, inl, inr}
+use Rattle.std.proofs.Common.{◌≡◌, ℕ, ◌+◌, ◌<◌, Bool, true, false, List, length, map, get_or, set, Option, Some, None, refl, sym, ap, ◌∙◌, subst, inl, inr}
 use Rattle.std.proofs.Math.Path.{fun_ext}
 use Rattle.std.proofs.lemmas.Bool.{cases_eq}
 use Rattle.std.proofs.lemmas.List.{get_or-set_same, get_or-set_other}
-use Rattle.std.specs.Prelude.{◌⊎◌, ◌&&◌, ◌||◌, if◌then◌else◌}
+use Rattle.std.specs.Prelude.{◌||◌, if◌then◌else◌}
 use Rattle.ink_base.specs.declared.event.Event.{Event}
-use Rattle.ink_base.specs.declared.event.Origin.{Origin}
 use Rattle.task_isa.specs.declared.program.Program.{Program}
 use Rattle.task_isa.specs.declared.outcome.Outcome.{Outcome}
 use Rattle.task_isa.specs.declared.outcome.Outcome.TheVariants as outcomes
 use Rattle.task_isa.specs.declared.task_end.TaskEnd.{TaskEnd}
-use Rattle.prog_check.specs.Lookup.{thread_def}
-use Rattle.source_laws.specs.Model.{Queue, with_finished}
+use Rattle.source_laws.specs.Model.{with_finished}
 use Rattle.never_cut.specs.declared.model.Model.{Model}
 use Rattle.never_cut.specs.declared.thread_model.ThreadModel.{ThreadModel}
-use Rattle.never_cut.specs.declared.source_model.SourceModel.{SourceModel}
 use Rattle.never_cut.specs.declared.scan_model.ScanModel.{ScanModel}
-use Rattle.never_cut.specs.State.{thread_of, source_of, is_running, no_thread, no_source}
+use Rattle.never_cut.specs.State.{thread_of, is_running, no_thread, no_source}
 use Rattle.never_cut.specs.Pending.{pending}
 use Rattle.never_cut.specs.Picked.{IsPicked}
 use Rattle.never_cut.specs.Commit.{commit, committed, consumed, ended, end_at, expired, expired_after, is_expired, is_of_queue, thread_after, with_end, with_first}

@@ -12,7 +12,7 @@ use Rattle.fram_words.proofs.Accesses.{finds_there, address_same}
 use Rattle.ink_layout.specs.Shape.{IsOnBoard}
 use Rattle.ink_layout.proofs.Regions.{valid, below}
 use Rattle.never_cut.specs.Entries.{readings_of}
-use Rattle.push_core.specs.Table.{first_row, access_of, take_of, point_of, want_of, is_left, IsLeft, IsFew, IsRowFor, IsAnswer}
+use Rattle.push_core.specs.Table.{first_row, access_of, take_of, point_of, want_of, IsLeft, IsFew, IsRowFor, IsAnswer}
 use Rattle.push_core.specs.declared.row.Row.{Row}
 use Rattle.push_core.specs.declared.stage.Stage.{Stage}
 use Rattle.push_core.specs.declared.stage.Stage.TheVariants.{LoadSrc, LoadSlots, LoadAck, LoadTail, LoadSlot, Publish, MoveTail, HelpTail, StoreSkip, StoreAccepted}

@@ -31,8 +31,8 @@ use Rattle.kernel_core.specs.Kernel.{wants, takes, point_found}
 use Rattle.kernel_core.specs.Fits.{CanWant, CanTake}
 use Rattle.kernel_core.specs.Record.{ChargeRecord, charge_of, with_kernel, with_tick}
 use Rattle.kernel_core.specs.Recorded.{Recorded}
-use Rattle.kernel_core.specs.Board.{Setup, Board, shape, finds, charged, kernel_access, kernel_turn, clock_access, clock_turn, turn}
-use Rattle.kernel_core.specs.Holds.{IsSetup, Holds, BoardStands, memory, state}
+use Rattle.kernel_core.specs.Board.{Setup, Board, shape, finds, charged, kernel_access, kernel_turn, clock_turn, turn}
+use Rattle.kernel_core.specs.Holds.{Holds, BoardStands, memory, state}
 use Rattle.kernel_core.specs.Made.{kernel_made, clock_made}
 use Rattle.kernel_core.specs.Core.{IsCore, IsPusher, AreRecords, CanCount, StaysInRange, setup_of, charge_in, row_in, none_recorded, no_pusher, turns_in}
 use Rattle.kernel_core.proofs.Turns.{Goes, kernel_goes, background_of}

@@ -131,7 +131,7 @@ job_short job is = record {
   values = λ i k. reading_below (readings_of job.readings i) k (readings_at job i is);
 }
 
--- what a job of a program of today sets up
+-- what a job sets up
 pub job_setup : (job : JobParts) → IsJob job → HasCode job.program → IsSetup (setup_of job)
 job_setup job is code = record { accepted = is.accepted; code = code; short = job_short job is }
 

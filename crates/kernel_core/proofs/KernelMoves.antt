@@ -11,7 +11,6 @@ use Rattle.thread_state.specs.Pages.{working_mask}
 use Rattle.prog_check.specs.Lookup.{thread_def}
 use Rattle.ink_layout.specs.Points.{entry_of_point}
 use Rattle.never_cut.specs.declared.model.Model.{Model}
-use Rattle.never_cut.specs.declared.thread_model.ThreadModel.{ThreadModel}
 use Rattle.never_cut.specs.State.{thread_of}
 use Rattle.never_cut.specs.Commit.{committed}
 use Rattle.never_cut.specs.Entries.{effect}

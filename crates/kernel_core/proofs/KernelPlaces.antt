@@ -1,6 +1,5 @@
 -- Each place that the kernel wants is one of the board.
 use Rattle.std.proofs.Common.{◌≡◌, inl, inr, ℕ, ◌+◌, ◌*◌, ◌/◌, ◌%◌, ◌^◌, ◌<◌, ◌==◌, Bool, true, false, cond, List, length, refl, sym, ap, ◌∙◌, subst, arith, mod-lt}
-use Rattle.std.proofs.lemmas.Bool.{cases_Bool, eqb-true}
 use Rattle.std.proofs.lemmas.Nat.Bits.{bit_at-lt}
 use Rattle.std.specs.Int.{bit_at}
 use Rattle.ink_base.specs.declared.event.Event.{Event}
@@ -14,7 +13,7 @@ use Rattle.never_cut.specs.declared.model.Model.{Model}
 use Rattle.never_cut.specs.Entries.{Readings}
 use Rattle.never_cut.specs.State.{thread_of}
 use Rattle.never_cut.specs.Sound.{IsQueued}
-use Rattle.never_cut.specs.Stands.{event_at, saved, log_of}
+use Rattle.never_cut.specs.Stands.{event_at}
 use Rattle.never_cut.specs.Steps.{Background}
 use Rattle.never_cut.specs.Actors.{IsFinishing}
 use Rattle.reboot.specs.Boot.{boot_wants}
@@ -31,7 +30,7 @@ use Rattle.task_run.specs.declared.phase.Phase.TheVariants as phase
 use Rattle.task_run.specs.declared.machine.TaskMachine.{TaskMachine}
 use Rattle.task_run.specs.Machine.{Put, action, access_of, device, fetch, is_late}
 use Rattle.task_run.specs.Endings.{next_by, total_word}
-use Rattle.task_run.specs.Serving.{Serving, assignment, Progress}
+use Rattle.task_run.specs.Serving.{Serving}
 use Rattle.task_run.specs.Fits.{FitsPhase}
 use Rattle.task_run.specs.Knows.{KnowsAt}
 use Rattle.kernel_core.specs.Board.{Setup}

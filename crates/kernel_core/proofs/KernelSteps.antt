@@ -1,8 +1,8 @@
 -- Each access of the kernel is a step that the sources' side is proved for.
-use Rattle.std.proofs.Common.{◌≡◌, ◌≢◌, inl, ℕ, suc, ◌+◌, ◌*◌, ◌^◌, ◌%◌, ◌<◌, Bool, true, false, List, [], ◌∷◌, length, map, drop, set, Option, Some, None, refl, sym, ap, ◌∙◌, subst, arith}
+use Rattle.std.proofs.Common.{◌≡◌, inl, ℕ, suc, ◌+◌, ◌%◌, ◌<◌, false, List, [], ◌∷◌, length, map, drop, set, refl, sym, ap, ◌∙◌, subst, arith}
 use Rattle.ink_base.specs.declared.event.Event.{Event}
 use Rattle.ink_base.specs.declared.entry.Entry.TheVariants as entries
-use Rattle.fram_words.specs.Places.{Place, Code, Commit, Page, Log, Ring, Tail, Slot, Ack, Clock, Src, IsShared, Memory, Access, Load, Store, store, perform, answer}
+use Rattle.fram_words.specs.Places.{Commit, Slot, Ack, Memory, Access, Store, store, perform}
 use Rattle.fram_words.specs.Changes.{Becomes}
 use Rattle.fram_words.proofs.Accesses.{stored}
 use Rattle.push_core.specs.Slots.{empty_word}

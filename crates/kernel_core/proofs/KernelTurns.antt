@@ -1,5 +1,5 @@
 -- An access of the kernel is legal and allowed, and its registers know what they must after it.
-use Rattle.std.proofs.Common.{◌≡◌, ℕ, ◌+◌, ◌^◌, ◌<◌, Bool, true, false, Option, Some, None, refl, sym, ap, ◌∙◌, subst}
+use Rattle.std.proofs.Common.{◌≡◌, ℕ, ◌+◌, ◌^◌, ◌<◌, Bool, true, false, Option, Some, None, refl, sym, ◌∙◌, subst}
 use Rattle.std.specs.Prelude.{if◌then◌else◌}
 use Rattle.ink_base.specs.declared.event.Event.{Event}
 use Rattle.ink_base.specs.declared.ids.ThreadId.{ThreadId}
@@ -31,7 +31,7 @@ use Rattle.priority_sched.proofs.Ends.{scan_ends}
 use Rattle.task_run.specs.declared.phase.Phase.{Phase}
 use Rattle.task_run.specs.declared.phase.Phase.TheVariants as phase
 use Rattle.task_run.specs.declared.machine.TaskMachine.{TaskMachine}
-use Rattle.task_run.specs.Machine.{is_over, begin, first_phase}
+use Rattle.task_run.specs.Machine.{is_over, first_phase}
 use Rattle.task_run.specs.Knows.{Knows, KnowsAt}
 use Rattle.task_run.proofs.Keeps.{every_task_commits}
 use Rattle.task_run.proofs.Begins.{every_pick}

@@ -15,9 +15,9 @@ use Rattle.push_core.specs.declared.point.Point.TheVariants as points
 use Rattle.push_core.specs.Table.{src_word}
 use Rattle.source_laws.specs.QueueEvent.{QueueEvent}
 use Rattle.source_laws.specs.Slots.{full, empty}
-use Rattle.source_laws.specs.Model.{Queue, Source, event_of}
+use Rattle.source_laws.specs.Model.{event_of}
 use Rattle.source_laws.specs.Model as sources
-use Rattle.source_laws.specs.Rows.{access_at, access, slot_place}
+use Rattle.source_laws.specs.Rows.{access_at, slot_place}
 use Rattle.source_laws.specs.Rows as rows_of
 use Rattle.source_laws.specs.Steps.{Adds, MayAdd}
 use Rattle.never_cut.specs.declared.model.Model.{Model}

@@ -12,7 +12,7 @@ use Rattle.source_laws.specs.Stands as sides_stand
 use Rattle.source_laws.proofs.Runs.{tells}
 use Rattle.never_cut.specs.State.{thread_of, source_of}
 use Rattle.never_cut.specs.Sound.{IsQueued}
-use Rattle.never_cut.specs.Stands.{Stands, StandsSource, event_at, is_event_of}
+use Rattle.never_cut.specs.Stands.{StandsSource, event_at, is_event_of}
 use Rattle.never_cut.specs.Stands as stands
 use Rattle.kernel_core.specs.Board.{Setup, Board, sides, row_of}
 use Rattle.kernel_core.specs.Views.{queue_event, seen}

@@ -4,7 +4,7 @@ use Rattle.std.specs.Prelude.{◌==◌, slice_index}
 use Rattle.std.specs.Option.{ForSome}
 use Rattle.ink_base.specs.declared.output.Output.{Output}
 use Rattle.task_isa.specs.declared.program.Program.{Program}
-use Rattle.fram_words.specs.Places.{Place, Code, Commit, Page, Log, Ring, Ack, Memory, store}
+use Rattle.fram_words.specs.Places.{Code, Commit, Log, Ring, Ack, Memory, store}
 use Rattle.thread_state.specs.Pages.{place_in, committed}
 use Rattle.prog_check.specs.Lookup.{pipe_def}
 use Rattle.never_cut.specs.declared.model.Model.{Model}

@@ -1,5 +1,5 @@
 -- What holds of every state that a legal journal reaches.
-use Rattle.std.specs.Prelude.{◌≡◌, ℕ, zero, suc, ◌+◌, ◌*◌, ◌%◌, ◌^◌, ◌<◌, ◌≤◌, ◌==◌, true, false, if◌then◌else◌, length, slice_index, Some, None}
+use Rattle.std.specs.Prelude.{◌≡◌, ℕ, zero, suc, ◌+◌, ◌%◌, ◌^◌, ◌<◌, ◌≤◌, ◌==◌, true, false, if◌then◌else◌, length, slice_index, Some, None}
 use Rattle.std.specs.Option.{ForSome}
 use Rattle.ink_base.specs.declared.event.Event.{Event}
 use Rattle.ink_base.specs.declared.event.Origin.TheVariants as origins

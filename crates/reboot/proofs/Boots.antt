@@ -8,7 +8,7 @@ use Rattle.ink_base.specs.declared.event.Event.{Event}
 use Rattle.ink_base.specs.declared.event.Origin.{Origin}
 use Rattle.ink_base.specs.declared.event.Origin.TheVariants as origins
 use Rattle.task_isa.specs.declared.program.Program.{Program}
-use Rattle.fram_words.specs.Places.{Memory, Load, Store, store, answer, perform}
+use Rattle.fram_words.specs.Places.{Memory, Load, store}
 use Rattle.fram_words.specs.Places as places
 use Rattle.fram_words.proofs.Frames.{store-same}
 use Rattle.thread_state.specs.Pages.{committed, place_in}

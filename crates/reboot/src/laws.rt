@@ -2,7 +2,7 @@
 
 ghost use Rattle.reboot.specs.Laws.{BootBegins, BootKeeps, BootDrifts, BootEnds};
 
-/// A boot of any accepted program that the board runs, from any words that stand for a state, and with any accesses of sources and clock
+/// A boot of any accepted program, from any words that stand for a state, and with any accesses of sources and clock
 /// between its own. Each access is within its range and allowed, the entry that it makes is legal, and the words stand for the state
 /// after it. At the end no finished event is left unreleased, and the stamp is the number of commits.
 pub fn boot_releases()

@@ -2,10 +2,10 @@
 use Rattle.std.proofs.Common.{◌≡◌, inl, inr, ℕ, ◌<◌, length, sym, ap, ◌∙◌, subst, arith}
 use Rattle.std.proofs.lemmas.Bool.{cases_eq}
 use Rattle.fram_words.specs.Changes.{Becomes}
-use Rattle.fram_words.specs.Places.{Place, Tail, Ack, Src}
+use Rattle.fram_words.specs.Places.{Tail, Ack, Src}
 use Rattle.fram_words.specs.Places as places
 use Rattle.source_laws.specs.Model.{places_for, Board, Queue, Source, published, SourceBecomes}
-use Rattle.source_laws.specs.Stands.{StandsQueue, StandsSource, Stored}
+use Rattle.source_laws.specs.Stands.{Stored}
 use Rattle.push_core.specs.declared.row.Row.{Row}
 use Rattle.source_laws.specs.Knows.{Knows}
 use Rattle.source_laws.specs.Kept.{State, Kept, near, QueueKept, SourcePart, slots_of, EventsKept, IsEvent, IsOrdered, IsWithin, accepted_into}

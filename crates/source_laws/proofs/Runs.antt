@@ -1,6 +1,5 @@
 -- The invariant holds from the first image on, and the words then stand for the never-cut kernel.
 use Rattle.std.proofs.Common.{◌≡◌, ◌⊎◌, inl, inr, ℕ, zero, suc, ◌/◌, ◌%◌, ◌^◌, ◌<◌, ◌≤◌, ◌==◌, cond, Bool, true, false, length, refl, ap, ◌∙◌, arith, mod-eq_of_lt}
-use Rattle.fram_words.specs.Places.{Tail, Ack, Src}
 use Rattle.fram_words.specs.Places as places
 use Rattle.source_laws.specs.Model.{places_of, Board, Queue, Source, Near, open_queue, open_source, published}
 use Rattle.source_laws.specs.Stands.{Tells}

@@ -7,7 +7,7 @@ use Rattle.push_core.specs.declared.row.Row.{Row}
 use Rattle.fram_words.specs.Changes.{Becomes}
 use Rattle.source_laws.specs.QueueEvent.{QueueEvent}
 use Rattle.source_laws.specs.Slots.{full}
-use Rattle.fram_words.specs.Places.{Place, Tail, Ack, Src, IsShared}
+use Rattle.fram_words.specs.Places.{Tail, Ack, Src}
 use Rattle.fram_words.specs.Places as places
 use Rattle.source_laws.specs.Model.{places_for, Board, Queue, Source, Model, published, BothBecome, event_of, with_event, with_accepted}
 use Rattle.source_laws.specs.Stands.{StandsQueue, event_at, no_event}

@@ -2,7 +2,7 @@
 
 ghost use Rattle.task_run.specs.Knows.{EveryTaskCommits, EveryTaskOutlasts, EveryTaskFits, EveryPickBegins};
 
-/// The law of the machine that serves a pick, for every plain program, on words that stand for a state of the never-cut kernel.
+/// The law of the machine that serves a pick, for every accepted program, on words that stand for a state of the never-cut kernel.
 /// Until the commit each access leaves the committed copy of every thread, and the state; the store of the commit word is a legal
 /// commit, and leaves words that stand for what the commit makes of the state; the store of the empty slot is a legal release.
 /// What the registers know outlasts any accesses of sources and clock in between. The registers are in the ranges that `want` and
