@@ -3,7 +3,7 @@
 ghost use Rattle.std.specs.Prelude.{◌≡◌, ◌≤◌, length, IfOk};
 ghost use Rattle.std.specs.List.{list_all};
 ghost use Rattle.ink_base.specs.Tokens.{word_of};
-ghost use Rattle.ink_base.specs.Numbers.{is_digit, is_number, value};
+ghost use Rattle.ink_base.specs.Numbers.{is_digit, is_number, value, number_said};
 ghost use Rattle.ink_base.specs.Gives.{Gives};
 ghost use Rattle.ink_base.specs.Checks.{words_of, word_in, fixed_in, number_of, number_in, field_in, end_in};
 
@@ -77,14 +77,24 @@ fn value(word: &[u8]) -> u64
     n
 }
 
+/// What a word says as a number; none where it isn't 1 to 10 digits.
+pub fn number_said(word: &[u8]) -> Option<u64>
+    ensures { result ≡ number_said word.now }
+{
+    if is_number(word) {
+        Some(value(word))
+    } else {
+        None
+    }
+}
+
 /// What a word says as a number. Refused where it isn't 1 to 10 digits: `BadNumber`.
 pub fn number_of(word: &[u8]) -> Result<u64, LineError>
     ensures { Gives (λ x. x) result (number_of word.now) }
 {
-    if is_number(word) {
-        Ok(value(word))
-    } else {
-        Err(LineError::Fault(Cause::BadNumber))
+    match number_said(word) {
+        Some(number) => Ok(number),
+        None => Err(LineError::Fault(Cause::BadNumber)),
     }
 }
 
