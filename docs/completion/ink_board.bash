@@ -1,0 +1,61 @@
+# shellcheck shell=bash
+# Completion of ink_board's words in bash: the modes, and for each mode its flags, each offered once.
+# To have it, write into ~/.bashrc, with the repository's path:
+#     source /path/to/ink_board/docs/completion/ink_board.bash
+
+# The flags that a mode takes.
+_ink_board_flags() {
+  case $1 in
+    run) echo --journal --json ;;
+    print) ;;
+    soak) echo --seed --journal --json ;;
+  esac
+}
+
+# The modes that take all of these flags.
+_ink_board_modes() {
+  local mode flag
+  for mode in run print soak; do
+    for flag in "$@"; do
+      [[ " $(_ink_board_flags "$mode") " == *" $flag "* ]] || continue 2
+    done
+    echo "$mode"
+  done
+}
+
+_ink_board() {
+  local current=${COMP_WORDS[COMP_CWORD]} previous=${COMP_WORDS[COMP_CWORD - 1]}
+  COMPREPLY=()
+  case $previous in
+    '<' | '>' | '>>' | '>|' | '<>') # no word of the command, but the name of a file
+      compopt -o filenames 2>/dev/null
+      mapfile -t COMPREPLY < <(compgen -f -- "$current")
+      return
+      ;;
+    --seed | =) return ;; # a number
+  esac
+
+  # what the other words ask for already
+  local mode='' used=() index
+  for ((index = 1; index < ${#COMP_WORDS[@]}; index++)); do
+    ((index == COMP_CWORD)) && continue
+    case ${COMP_WORDS[index]} in
+      '<' | '>' | '>>' | '>|' | '<>') ((index++)) ;;
+      run | print | soak) mode=${COMP_WORDS[index]} ;;
+      --seed=*) used+=(--seed) ;;
+      --journal | --json | --seed) used+=("${COMP_WORDS[index]}") ;;
+    esac
+  done
+
+  local offered=() flag
+  if [[ -z $mode && $current != -* ]]; then
+    mapfile -t offered < <(_ink_board_modes "${used[@]}")
+  else
+    for flag in $(_ink_board_flags "${mode:-soak}"); do # soak has them all
+      [[ " ${used[*]} " == *" $flag "* ]] || offered+=("$flag")
+    done
+  fi
+  mapfile -t COMPREPLY < <(compgen -W "${offered[*]}" -- "$current")
+}
+
+complete -F _ink_board ink_board
