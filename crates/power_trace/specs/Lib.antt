@@ -3,3 +3,4 @@ pub mod Sensors
 pub mod Power
 pub mod Job
 pub mod Parse
+pub mod Soak

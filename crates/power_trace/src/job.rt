@@ -1,8 +1,11 @@
 //! Jobs.
 
 use crate::charge::Charge;
-use prog_check::Accepted;
+use crate::copying::copied_readings;
+use ink_base::NoMemory;
+use prog_check::{Accepted, copies};
 use sqlite_items::Items;
+use std::alloc::Global;
 use std::marker::Model;
 
 /// An accepted program, the readings of each of its sources, and its power trace, all within the limits: a source has at most
@@ -25,7 +28,7 @@ impl Model for Job {
 }
 
 impl Job {
-    ghost use Rattle.std.specs.Prelude.{◌≡◌};
+    ghost use Rattle.std.specs.Prelude.{◌≡◌, IfOk};
     ghost use Rattle.power_trace.specs.Job.{IsJob};
 
     pub(crate) fn new(
@@ -65,6 +68,17 @@ impl Job {
         ensures job { IsJob self.now }
     {
         self.charges.as_slice()
+    }
+
+    /// An equal job.
+    pub fn copy(&self, alloc: Global) -> Result<Job, NoMemory>
+        ensures { IfOk result (λ copy. copy ≡ self.now) }
+    {
+        Ok(Job {
+            accepted: self.accepted.copy(alloc)?,
+            readings: copied_readings(alloc, self.readings.as_slice())?,
+            charges: copies(alloc, self.charges.as_slice())?,
+        })
     }
 
     /// The program, the readings of each source, and the charges.

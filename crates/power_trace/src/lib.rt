@@ -3,6 +3,8 @@
 
 mod charge;
 mod charges;
+mod copying;
+mod generator;
 mod headers;
 mod item;
 mod job;
@@ -13,6 +15,8 @@ mod power;
 mod readings;
 mod section;
 mod sensors;
+mod soak;
+mod soak_program;
 
 pub use charge::Charge;
 pub use item::Item;
@@ -20,6 +24,7 @@ pub use job::Job;
 pub use parse::{parse_job, parse_listed};
 pub use power::read_power;
 pub use sensors::read_sensors;
+pub use soak::soak_job;
 
 #[cfg(test)]
 mod tests;

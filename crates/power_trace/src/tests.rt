@@ -1,5 +1,7 @@
 //! Texts of jobs, and the first faults of others.
 
+mod soak;
+
 use crate::charge::Charge;
 use crate::item::Item;
 use crate::parse::parse_job;

@@ -1,0 +1,9 @@
+use Rattle.std.proofs.Common.{◌≡◌}
+use Rattle.power_trace.specs.Soak.{state_after, draws}
+use Rattle.power_trace.proofs.generator.drawn_readings.Given as goal
+
+abbrev pub invariant-loop-i : goal.invariant-loop-i
+invariant-loop-i l = record {
+  state : l.generator.state ≡ state_after l.initial.generator.state l._i;
+  values : l.values ≡ draws l.initial.generator.state 0 l._i;
+}

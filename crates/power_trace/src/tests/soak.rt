@@ -1,0 +1,142 @@
+//! Generated jobs, and copies of jobs.
+
+use super::job_text;
+use crate::charge::Charge;
+use crate::item::Item;
+use crate::job::Job;
+use crate::parse::parse_job;
+use crate::soak::soak_job;
+use ink_base::{Actor, SourceId};
+use prog_check::Accepted;
+use sqlite_items::Items;
+use std::test::Fail;
+
+fn begins(values: &[u32], first: u32, second: u32) -> bool {
+    match values {
+        [a, b, ..] => *a == first && *b == second && values.len() == 500,
+        _ => false,
+    }
+}
+
+fn item_turns(items: &[Item]) -> u32 {
+    match items {
+        [] => 0,
+        [item, rest @ ..] => item.count.saturating_add(item_turns(rest)),
+    }
+}
+
+fn turns(charges: &[Charge]) -> u32 {
+    match charges {
+        [] => 0,
+        [charge, rest @ ..] => item_turns(charge.items.as_slice()).saturating_add(turns(rest)),
+    }
+}
+
+fn is_first_charge(charge: &Charge) -> bool {
+    let items = [
+        Item {
+            actor: Actor::Source(SourceId(0)),
+            count: 3,
+        },
+        Item {
+            actor: Actor::Kernel,
+            count: 463,
+        },
+        Item {
+            actor: Actor::Source(SourceId(1)),
+            count: 9,
+        },
+        Item {
+            actor: Actor::Clock,
+            count: 2,
+        },
+    ];
+    charge.off == 4 && charge.items.as_slice() == items.as_slice()
+}
+
+fn have_same_names(a: &Accepted, b: &Accepted) -> bool {
+    match a.program().tasks.as_slice() {
+        [first, ..] => match b.program().tasks.as_slice() {
+            [second, ..] => first.name.is(second.name.as_bytes()),
+            [] => false,
+        },
+        [] => false,
+    }
+}
+
+fn are_same_readings(a: &[Items<u32>], b: &[Items<u32>]) -> bool {
+    match a {
+        [] => b.is_empty(),
+        [first, rest @ ..] => match b {
+            [] => false,
+            [second, others @ ..] => {
+                first.as_slice() == second.as_slice() && are_same_readings(rest, others)
+            }
+        },
+    }
+}
+
+fn are_same_charges(a: &[Charge], b: &[Charge]) -> bool {
+    match a {
+        [] => b.is_empty(),
+        [first, rest @ ..] => match b {
+            [] => false,
+            [second, others @ ..] => {
+                first.off == second.off
+                    && first.items.as_slice() == second.items.as_slice()
+                    && are_same_charges(rest, others)
+            }
+        },
+    }
+}
+
+fn are_same(a: &Job, b: &Job) -> bool {
+    have_same_names(a.accepted(), b.accepted())
+        && are_same_readings(a.readings(), b.readings())
+        && are_same_charges(a.charges(), b.charges())
+}
+
+#[test]
+fn the_job_of_number_1_is_as_computed_elsewhere(rt: HostRuntime) -> Result<(), Fail> {
+    let job = soak_job(rt.alloc(), 1)?;
+    match job.readings() {
+        [first, second] => {
+            assert!(rt; begins(first.as_slice(), 15496, 24200));
+            assert!(rt; begins(second.as_slice(), 41153, 39545));
+        }
+        _ => assert!(rt; false),
+    }
+    let charges = job.charges();
+    assert_eq!(rt; charges.len(), 201);
+    assert_eq!(rt; turns(charges), 67361);
+    match charges {
+        [first, ..] => assert!(rt; is_first_charge(first)),
+        [] => assert!(rt; false),
+    }
+    Ok(())
+}
+
+#[test]
+fn equal_numbers_give_equal_jobs(rt: HostRuntime) -> Result<(), Fail> {
+    let job = soak_job(rt.alloc(), 7)?;
+    let again = soak_job(rt.alloc(), 7)?;
+    assert!(rt; are_same(&job, &again));
+    let other = soak_job(rt.alloc(), 8)?;
+    assert!(rt; !are_same(&job, &other));
+    Ok(())
+}
+
+#[test]
+fn a_copy_is_equal(rt: HostRuntime) -> Result<(), Fail> {
+    let text = job_text(rt.alloc(), b"S0 7 8", b"charge 5 S0*9 K*200\ncharge 0 T\n")?;
+    assert!(rt; text.len() <= 4194304);
+    match parse_job(rt.alloc(), text.as_slice()) {
+        Ok(job) => {
+            let copy = job.copy(rt.alloc())?;
+            assert_eq!(rt; copy.charges().len(), 2);
+            assert!(rt; are_same(&job, &copy));
+        }
+        Err(_) => assert!(rt; false),
+    }
+    Ok(())
+}
