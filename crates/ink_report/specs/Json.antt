@@ -1,58 +1,51 @@
--- The summary as one line of compact JSON, its keys in ascending order. A name is letters, digits and _, so it needs no escape.
-use Rattle.std.specs.Prelude.{ℕ, ◌==◌, List, [], ◌++◌, length, count_by, codes, decimal, if◌then◌else◌}
+-- The summary as one line of compact JSON, its keys in ascending order. A name is letters, digits and _, so its text has no escape.
+use Rattle.std.specs.Prelude.{ℕ, List, ◌++◌, length, map, count_by, codes}
+use Rattle.std.specs.List.{range_with_len}
+use Rattle.serde_json.specs.Data.{Data, number, unsigned, string, array, object, Members, no_members, member}
+use Rattle.serde_json.specs.View.{items_of}
+use Rattle.serde_json.specs.Written.{compact_text}
 use Rattle.ink_base.specs.declared.entry.Entry.{Entry}
 use Rattle.task_isa.specs.declared.program.Program.{Program}
 use Rattle.prog_check.specs.Lookup.{thread_def}
 use Rattle.never_cut.specs.declared.model.Model.{Model}
 use Rattle.never_cut.specs.declared.thread_model.ThreadModel.{ThreadModel}
 use Rattle.never_cut.specs.State.{thread_of, source_of}
-use Rattle.ink_report.specs.Lines.{each_below, is_push, is_refusal}
+use Rattle.ink_report.specs.Lines.{is_push, is_refusal}
 
--- a comma stands before each part but the first
-abbrev pub separator : ℕ → List ℕ
-separator i = if i == 0 then [] else codes ","
+-- "KEY":N, before the members that follow
+abbrev pub count : List ℕ → ℕ → Members → Members
+count key n rest = member key (number (unsigned n)) rest
 
--- "charges":N,"clock":C,"commits":M
-abbrev pub totals_json : Model → ℕ → List ℕ
-totals_json m charges = codes "\"charges\":" ++ decimal charges ++ codes ",\"clock\":" ++ decimal m.clock ++ codes ",\"commits\":" ++ decimal m.commits
+-- the data of the numbers below a count, in order
+abbrev pub data_below : ℕ → (ℕ → Data) → List Data
+data_below n part = map part (range_with_len 0 n)
 
 -- {"next":K,"pushed":P,"refused":R}
-abbrev pub settled_json : ℕ → ℕ → ℕ → List ℕ
-settled_json next pushed refused =
-    codes "{\"next\":" ++ decimal next ++ codes ",\"pushed\":" ++ decimal pushed ++ codes ",\"refused\":" ++ decimal refused ++ codes "}"
+abbrev pub settled_data : ℕ → ℕ → ℕ → Data
+settled_data next pushed refused =
+    object (count (codes "next") next (count (codes "pushed") pushed (count (codes "refused") refused no_members)))
 
 -- P and R count the entries of the journal
-abbrev pub source_json : Model → List Entry → ℕ → List ℕ
-source_json m journal i = separator i ++ settled_json (source_of m i).next (count_by (is_push i) journal) (count_by (is_refusal i) journal)
+abbrev pub source_data : Model → List Entry → ℕ → Data
+source_data m journal i = settled_data (source_of m i).next (count_by (is_push i) journal) (count_by (is_refusal i) journal)
 
--- ,"sources":[ and the sources ]
-abbrev pub sources_json : Program → Model → List Entry → List ℕ
-sources_json program m journal = codes ",\"sources\":[" ++ each_below (length program.sources) (source_json m journal) ++ codes "]"
+-- {"expired":C,"held":D,"name":"NAME","served":A,"trapped":B}, where D counts the events that aren't released
+abbrev pub account_data : List ℕ → ThreadModel → Data
+account_data name x =
+    object (count (codes "expired") x.expired (count (codes "held") (length x.held)
+    (member (codes "name") (string name)
+    (count (codes "served") x.served (count (codes "trapped") x.trapped no_members)))))
 
--- ,"name":"NAME"
-abbrev pub name_json : List ℕ → List ℕ
-name_json name = codes ",\"name\":\"" ++ name ++ codes "\""
+abbrev pub thread_data : Program → Model → ℕ → Data
+thread_data program m t = account_data (thread_def program t).name (thread_of m t)
 
--- {"expired":C,"held":D, where D counts the events that aren't released
-abbrev pub waiting_json : ThreadModel → List ℕ
-waiting_json x = codes "{\"expired\":" ++ decimal x.expired ++ codes ",\"held\":" ++ decimal (length x.held)
+-- {"charges":N,"clock":C,"commits":M,"sources":[the sources],"threads":[the threads]}
+abbrev pub summary_data : Program → Model → List Entry → ℕ → Data
+summary_data program m journal charges =
+    object (count (codes "charges") charges (count (codes "clock") m.clock (count (codes "commits") m.commits
+    (member (codes "sources") (array (items_of (data_below (length program.sources) (source_data m journal))))
+    (member (codes "threads") (array (items_of (data_below (length program.threads) (thread_data program m)))) no_members)))))
 
--- ,"served":A,"trapped":B}
-abbrev pub finished_json : ThreadModel → List ℕ
-finished_json x = codes ",\"served\":" ++ decimal x.served ++ codes ",\"trapped\":" ++ decimal x.trapped ++ codes "}"
-
--- {"expired":C,"held":D,"name":"NAME","served":A,"trapped":B}
-abbrev pub account_json : List ℕ → ThreadModel → List ℕ
-account_json name x = waiting_json x ++ name_json name ++ finished_json x
-
-abbrev pub thread_json : Program → Model → ℕ → List ℕ
-thread_json program m t = separator t ++ account_json (thread_def program t).name (thread_of m t)
-
--- ,"threads":[ and the threads ]
-abbrev pub threads_json : Program → Model → List ℕ
-threads_json program m = codes ",\"threads\":[" ++ each_below (length program.threads) (thread_json program m) ++ codes "]"
-
--- the totals, the sources and the threads
+-- its compact text and a newline
 abbrev pub json_line : Program → Model → List Entry → ℕ → List ℕ
-json_line program m journal charges =
-    codes "{" ++ totals_json m charges ++ sources_json program m journal ++ threads_json program m ++ codes "}\n"
+json_line program m journal charges = compact_text (summary_data program m journal charges) ++ codes "\n"
