@@ -10,10 +10,9 @@ use Rattle.ink_report.specs.declared.flags.Flags.{Flags}
 abbrev pub no_flags : Flags
 no_flags = record { journal = false; json = false; bounds = false; image = false; seed = None }
 
--- neither the bounds of a charge nor the image are asked for
-pub record IsSupported (flags : Flags) : Type 0 where
-  pub bounds : flags.bounds ≡ false
-  pub image : flags.image ≡ false
+-- the bounds of a charge aren't asked for
+abbrev pub IsSupported : Flags → Type 0
+IsSupported flags = flags.bounds ≡ false
 
 -- an entry names a source or a thread of the program, or neither
 abbrev pub NamesPart : Program → Entry → Type 0

@@ -23,8 +23,8 @@ use task_isa::Program;
 /// The text of a run of so many charges that wrote these entries in its journal and came to this state of its program: the outputs in
 /// order, a line for each thread and each source, and a line of the clock, the commits and the charges. With a seed the outputs are left
 /// out, with `json` one line of JSON stands in place of the summary, and with `journal` a line for each entry follows. The state has as
-/// many threads and sources as the program, its outputs and the entries name threads and sources of the program, and neither the bounds
-/// nor the image are asked for. Out of memory may be answered at any time.
+/// many threads and sources as the program, its outputs and the entries name threads and sources of the program, and the bounds
+/// aren't asked for; whether the image is asked for changes nothing. Out of memory may be answered at any time.
 pub fn run_text(
     alloc: Global,
     program: &Accepted,
