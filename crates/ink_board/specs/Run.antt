@@ -13,8 +13,7 @@ use Rattle.kernel_core.specs.Holds.{BoardStands}
 use Rattle.kernel_core.specs.Listed.{run, run_first}
 use Rattle.kernel_core.specs.Core.{setup_of}
 use Rattle.kernel_core.specs.Scanned.{ChargesAreScanned}
-use Rattle.ink_board.specs.declared.command.Shown.{Shown}
-use Rattle.ink_board.specs.Words.{flags_of}
+use Rattle.ink_report.specs.declared.flags.Flags.{Flags}
 use Rattle.ink_report.specs.Report as report
 
 -- the board of a job after the first so many cuts and turns that it lists, from these words on, and after all
@@ -51,5 +50,5 @@ pub record IsRunOf (job : JobParts) (r : RunRecord) : Type 0 where
   pub scanned : ChargesAreScanned r.charges
 
 -- the text of a run: the outputs that its journal committed, the summary, and what is shown besides
-abbrev pub run_text_of : RunRecord → Shown → List ℕ
-run_text_of r shown = report.run_text r.job.program (after r.job.program r.job.readings (journal_in r)) (journal_in r) (length r.job.charges) (flags_of shown)
+abbrev pub run_text_of : RunRecord → Flags → List ℕ
+run_text_of r flags = report.run_text r.job.program (after r.job.program r.job.readings (journal_in r)) (journal_in r) (length r.job.charges) flags

@@ -10,6 +10,9 @@ use ink_report::Flags;
 pub enum Command {
     /// `run`: the board of the job on the source is run, and the text of the run is written.
     Run(Shown),
+    /// `soak`: the board of the job that is generated from a number is run, and the text of the run is written without its outputs.
+    /// Nothing is read.
+    Soak { number: u32, shown: Shown },
     /// `print`: the canonical text of the program of the job on the source is written.
     Print,
 }
@@ -22,140 +25,16 @@ pub struct Shown {
 }
 
 impl Shown {
-    /// The flags of the report.
-    pub fn flags(self) -> Flags
-        ensures { result ≡ words.flags_of self }
+    /// The flags of the report, with the number of the job where it is a generated one.
+    pub fn flags(self, seed: Option<u32>) -> Flags
+        ensures { result ≡ words.flags_of self seed }
     {
         Flags {
             journal: self.journal,
             json: self.json,
             bounds: false,
             image: false,
-            seed: None,
-        }
-    }
-}
-
-/// A word that names what is done.
-#[derive(Clone, Copy, Debug, PartialEq, Eq)]
-pub(crate) enum Mode {
-    Run,
-    Print,
-}
-
-impl Mode {
-    /// The mode of this name; none where no mode has it.
-    pub fn named(word: &str) -> Option<Mode>
-        ensures { result ≡ words.mode_named word.now }
-    {
-        if word == "run" {
-            Some(Mode::Run)
-        } else if word == "print" {
-            Some(Mode::Print)
-        } else {
-            None
-        }
-    }
-}
-
-/// What the words so far have asked for.
-#[derive(Clone, Copy, Debug, PartialEq, Eq)]
-pub(crate) struct Asked {
-    pub mode: Option<Mode>,
-    pub journal: bool,
-    pub json: bool,
-}
-
-impl Asked {
-    pub fn nothing() -> Asked
-        ensures { result ≡ words.nothing }
-    {
-        Asked {
-            mode: None,
-            journal: false,
-            json: false,
-        }
-    }
-
-    /// With one more word; none where no such word may follow.
-    pub fn with(self, word: &str) -> Option<Asked>
-        ensures { result ≡ words.asked_with self word.now }
-    {
-        if word == "--journal" {
-            self.with_journal()
-        } else if word == "--json" {
-            self.with_json()
-        } else {
-            self.with_mode(Mode::named(word))
-        }
-    }
-
-    fn with_journal(self) -> Option<Asked>
-        ensures { result ≡ words.with_journal self }
-    {
-        if self.journal {
-            return None;
-        }
-        Some(Asked {
-            mode: self.mode,
-            journal: true,
-            json: self.json,
-        })
-    }
-
-    fn with_json(self) -> Option<Asked>
-        ensures { result ≡ words.with_json self }
-    {
-        if self.json {
-            return None;
-        }
-        Some(Asked {
-            mode: self.mode,
-            journal: self.journal,
-            json: true,
-        })
-    }
-
-    fn with_mode(self, mode: Option<Mode>) -> Option<Asked>
-        ensures { result ≡ words.with_mode self mode }
-    {
-        match (mode, self.mode) {
-            (Some(mode), None) => Some(Asked {
-                mode: Some(mode),
-                journal: self.journal,
-                json: self.json,
-            }),
-            _ => None,
-        }
-    }
-
-    /// The command that was asked for; none where no mode was named, or a flag that the mode doesn't have.
-    pub fn command(self) -> Option<Command>
-        ensures { result ≡ words.command_in self }
-    {
-        match self.mode {
-            Some(Mode::Run) => Some(Command::Run(self.shown())),
-            Some(Mode::Print) => self.print(),
-            None => None,
-        }
-    }
-
-    fn shown(self) -> Shown
-        ensures { result ≡ words.shown_by self }
-    {
-        Shown {
-            journal: self.journal,
-            json: self.json,
-        }
-    }
-
-    fn print(self) -> Option<Command>
-        ensures { result ≡ words.print_by self }
-    {
-        if self.journal || self.json {
-            None
-        } else {
-            Some(Command::Print)
+            seed,
         }
     }
 }

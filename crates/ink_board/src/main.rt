@@ -1,6 +1,7 @@
 //! The program `ink_board`: a job's text in, the text of its run, or of its program, out.
 #![tactic(auto)]
 
+mod asked;
 mod board;
 mod command;
 mod complaint;

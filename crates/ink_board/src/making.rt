@@ -1,14 +1,17 @@
 //! From the text of a job to what a command makes of it.
 
-ghost use Rattle.std.specs.Prelude.{◌≡◌, ◌≤◌, length, IfOk, IfErr};
-ghost use Rattle.ink_board.specs.Run.{IsRunOf};
-ghost use Rattle.ink_board.specs.Made.{IsMade, Makes, text_of};
+ghost use Rattle.std.specs.Prelude.{◌≡◌, ◌≤◌, length, Ok, IfOk, IfErr};
+ghost use Rattle.power_trace.specs.Parse.{job_at};
+ghost use Rattle.ink_report.specs.Conditions.{IsSupported};
+ghost use Rattle.ink_board.specs.Run.{IsRunOf, run_text_of};
+ghost use Rattle.ink_board.specs.Made.{IsMade, text_of};
 ghost use Rattle.ink_board.specs.Answers.{StopsText};
 
-use crate::command::{Command, Shown};
+use crate::command::Command;
 use crate::finish::Record;
 use crate::report::report;
 use ink_base::{JobAnswer, NoMemory, Status};
+use ink_report::Flags;
 use kernel_core::{RunRecord, prepare};
 use power_trace::{Job, parse_job};
 use std::alloc::Global;
@@ -21,39 +24,38 @@ pub struct Made {
     pub text: Vec<u8>,
 }
 
-/// What a command makes of the job of a text. Refused where the text has a fault, with the first one.
-pub fn make(alloc: Global, command: Command, text: &[u8]) -> Result<Made, Status>
+/// The job of a text. Refused where the text has a fault, with the first one.
+pub fn job_of(alloc: Global, text: &[u8]) -> Result<Job, Status>
     requires { length text.now ≤ 4194304 }
-    ensures record { IfOk result (λ made. Makes command text.now made.record) }
-    ensures text { IfOk result (λ made. made.text.items ≡ text_of command made.record) }
+    ensures job { IfOk result (λ job. job_at text.now ≡ Ok job) }
     ensures stops { IfErr result (StopsText text.now) }
 {
     match parse_job(alloc, text) {
-        Ok(job) => match make_of(alloc, command, job) {
-            Ok(made) => Ok(made),
-            Err(NoMemory) => Err(Status::NoMemory),
-        },
+        Ok(job) => Ok(job),
         Err(JobAnswer::Fault(fault)) => Err(Status::Refused(fault)),
         Err(JobAnswer::NoMemory) => Err(Status::NoMemory),
     }
 }
 
-fn make_of(alloc: Global, command: Command, job: Job) -> Result<Made, NoMemory>
+/// What a command makes of its job.
+pub fn make(alloc: Global, command: Command, job: Job) -> Result<Made, NoMemory>
     ensures record { IfOk result (λ made. IsMade command job made.record) }
     ensures text { IfOk result (λ made. made.text.items ≡ text_of command made.record) }
 {
     match command {
-        Command::Run(shown) => run_job(alloc, shown, job),
+        Command::Run(shown) => run_job(alloc, shown.flags(None), job),
+        Command::Soak { number, shown } => run_job(alloc, shown.flags(Some(number)), job),
         Command::Print => print_job(alloc, job),
     }
 }
 
-fn run_job(alloc: Global, shown: Shown, job: Job) -> Result<Made, NoMemory>
-    ensures record { IfOk result (λ made. IsMade (Command.Run shown) job made.record) }
-    ensures text { IfOk result (λ made. made.text.items ≡ text_of (Command.Run shown) made.record) }
+// The record of the whole run of a job, and its text.
+fn run_job(alloc: Global, flags: Flags, job: Job) -> Result<Made, NoMemory>
+    requires { IsSupported flags }
+    ensures { IfOk result (λ made. (r : RunRecord) × (made.record ≡ Record.Run r) × IsRunOf job r × (made.text.items ≡ run_text_of r flags)) }
 {
     let record = record_of(alloc, job)?;
-    let text = report(alloc, &record, shown)?;
+    let text = report(alloc, &record, flags)?;
     Ok(Made {
         record: Record::Run(record),
         text,

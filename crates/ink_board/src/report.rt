@@ -3,19 +3,20 @@
 ghost use Rattle.std.specs.Prelude.{◌≡◌, IfOk};
 ghost use Rattle.std.specs.List.{flat_map};
 ghost use Rattle.never_cut.specs.Journal.{after};
+ghost use Rattle.ink_report.specs.Conditions.{IsSupported};
 ghost use Rattle.ink_board.specs.Run.{IsRunOf, run_text_of, journal_in, entries_of};
 
-use crate::command::Shown;
 use ink_base::{Entry, NoMemory};
-use ink_report::run_text;
+use ink_report::{Flags, run_text};
 use kernel_core::{ChargeRecord, RunRecord};
 use never_cut::{Model, ReplayFault, replay};
 use std::alloc::Global;
 
-/// The text of the state after the record's journal: its outputs, the summary, and what is shown besides.
-pub fn report(alloc: Global, run: &RunRecord, shown: Shown) -> Result<Vec<u8>, NoMemory>
-    requires { IsRunOf run.now.job run.now }
-    ensures { IfOk result (λ text. text.items ≡ run_text_of run.now shown) }
+/// The text of the state after the record's journal: its outputs, the summary, and what is shown besides, as the flags say.
+pub fn report(alloc: Global, run: &RunRecord, flags: Flags) -> Result<Vec<u8>, NoMemory>
+    requires ran { IsRunOf run.now.job run.now }
+    requires supported { IsSupported flags }
+    ensures { IfOk result (λ text. text.items ≡ run_text_of run.now flags) }
 {
     let entries = all_entries(alloc, run.charges.as_slice())?;
     let model = state_after(alloc, run, entries.as_slice())?;
@@ -26,7 +27,7 @@ pub fn report(alloc: Global, run: &RunRecord, shown: Shown) -> Result<Vec<u8>, N
         &model,
         entries.as_slice(),
         charges,
-        shown.flags(),
+        flags,
     )
 }
 

@@ -8,10 +8,13 @@ use kernel_core::RunRecord;
 use std::process::Abort;
 use std::test::Fail;
 
+mod calls;
+mod commands;
 mod devices;
 mod limits;
 mod prints;
 mod programs;
+mod soaks;
 mod threads;
 
 /// A job of one thread that adds up its readings, and what its run prints.
@@ -101,6 +104,28 @@ fn journal_is<R: Abort + AllocGlobal>(
         entries.extend_from_slice(charge.entries.as_slice())?;
     }
     assert_eq!(rt; entries.as_slice(), wanted);
+    Ok(())
+}
+
+// Declares sixteen threads, t0 to t15, with their numbers as priorities.
+fn declare_threads(text: &mut String) -> Result<(), Fail> {
+    for thread in 0..16 {
+        write!(
+            text,
+            "thread t{thread} priority {thread} queue 2 state 0 log 8\n"
+        )?;
+    }
+    Ok(())
+}
+
+// Tells that each of the sixteen served one event.
+fn tell_served(printed: &mut String) -> Result<(), Fail> {
+    for thread in 0..16 {
+        write!(
+            printed,
+            "thread t{thread} served 1 trapped 0 expired 0 held 0\n"
+        )?;
+    }
     Ok(())
 }
 
@@ -475,32 +500,6 @@ fn a_job_has_at_most_4194304_bytes(rt: HostRuntime) -> Result<(), Fail> {
         let finish = board(alloc, words.as_slice(), &mut source, &mut sink);
         assert_eq!(rt; finish.status, status);
         assert_eq!(rt; sink.bytes(), printed.as_bytes());
-    }
-    Ok(())
-}
-
-#[test]
-fn other_words_are_no_command(rt: HostRuntime) -> Result<(), Fail> {
-    let alloc = rt.alloc();
-    let commands: [&[&str]; 10] = [
-        &[],
-        &["fly"],
-        &["run", "run"],
-        &["run", "--json", "--json"],
-        &["--journal"],
-        &["run", "--seed", "3"],
-        &["run", "--"],
-        &["print", "run"],
-        &["print", "--json"],
-        &["soak"],
-    ];
-    for words in commands {
-        let words = run_words(&rt, words)?;
-        let mut source = MemSource::new(Vec::new(alloc), 100, [1].to_vec(alloc)?);
-        let mut sink = MemSink::new(alloc, 2000, 7, Vec::new(alloc))?;
-        let finish = board(alloc, words.as_slice(), &mut source, &mut sink);
-        assert_eq!(rt; finish.status, Status::Usage);
-        assert!(rt; sink.bytes().is_empty());
     }
     Ok(())
 }

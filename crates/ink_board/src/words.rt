@@ -3,10 +3,12 @@
 ghost use Rattle.std.specs.Prelude.{◌≡◌, map, string_bytes};
 ghost use Rattle.ink_board.specs.Words.{asked_from, command_of};
 
-use crate::command::{Asked, Command};
+use crate::asked::Asked;
+use crate::command::Command;
 
 /// What the words ask for. A command is the name of a mode and flags, in any order, each at most once: `run` may have `--journal` and
-/// `--json`, `print` has none. None exactly where the words are no command.
+/// `--json`; `soak` may have both, and has `--seed`, whose number of 1 to 10 digits below 2^32 is the next word or stands behind a `=`;
+/// `print` has none. None exactly where the words are no command.
 pub fn command_of(words: &[String]) -> Option<Command>
     ensures { result ≡ command_of (map string_bytes words.now) }
 {

@@ -1,6 +1,7 @@
 //! Pipes, timers and expiry.
 
 use super::programs::prints;
+use super::{declare_threads, tell_served};
 use std::test::Fail;
 
 /// A thread that sends its reading twice into a pipe with one place, up to the charges.
@@ -156,16 +157,10 @@ fn a_node_averages_its_samples(rt: HostRuntime) -> Result<(), Fail> {
     )
 }
 
-#[test]
-fn eight_pipes_and_eight_timers_on_sixteen_threads(rt: HostRuntime) -> Result<(), Fail> {
-    let alloc = rt.alloc();
-    let mut text = String::from_str(alloc, "[program]\n")?;
-    for thread in 0..16 {
-        write!(
-            text,
-            "thread t{thread} priority {thread} queue 2 state 0 log 8\n"
-        )?;
-    }
+// A job of sixteen threads, of which eight send a timer's tick to the other eight.
+fn eight_pipes_and_timers<R: AllocGlobal>(rt: &R) -> Result<String, Fail> {
+    let mut text = String::from_str(rt.alloc(), "[program]\n")?;
+    declare_threads(&mut text)?;
     for pipe in 0..8 {
         let reader = pipe + 8;
         let due = pipe + 1;
@@ -183,7 +178,13 @@ fn eight_pipes_and_eight_timers_on_sixteen_threads(rt: HostRuntime) -> Result<()
         )?;
     }
     text.push_str("[sensors]\n[power]\ncharge 10 K*4000\n")?;
-    let mut printed = String::new(alloc);
+    Ok(text)
+}
+
+#[test]
+fn eight_pipes_and_eight_timers_on_sixteen_threads(rt: HostRuntime) -> Result<(), Fail> {
+    let text = eight_pipes_and_timers(&rt)?;
+    let mut printed = String::new(rt.alloc());
     // The writers send in the order of their priorities, each before its reader.
     let commits = [
         (2, 15),
@@ -198,12 +199,7 @@ fn eight_pipes_and_eight_timers_on_sixteen_threads(rt: HostRuntime) -> Result<()
     for (commit, reader) in commits {
         write!(printed, "{commit} t{reader} 10\n")?;
     }
-    for thread in 0..16 {
-        write!(
-            printed,
-            "thread t{thread} served 1 trapped 0 expired 0 held 0\n"
-        )?;
-    }
+    tell_served(&mut printed)?;
     printed.push_str("clock 10 commits 16 charges 1\n")?;
     prints(&rt, text.as_str(), printed.as_str())
 }

@@ -1,7 +1,7 @@
 //! Several threads: their order, their preemption between tasks, and chains that survive cuts.
 
 use super::programs::prints;
-use super::{run_kept, run_text};
+use super::{declare_threads, run_kept, run_text, tell_served};
 use ink_base::{Entry, SourceId, Status, ThreadId};
 use ink_io::MemSink;
 use std::process::Abort;
@@ -94,18 +94,11 @@ fn a_chain_that_is_cut_at_any_access_goes_on_from_its_last_commit(
     Ok(())
 }
 
-#[test]
-fn sixteen_threads_are_served_in_the_order_of_their_priorities(
-    rt: HostRuntime,
-) -> Result<(), Fail> {
+// A job of sixteen threads, each with a source of one reading and a task that puts it out.
+fn sixteen_threads<R: AllocGlobal>(rt: &R) -> Result<String, Fail> {
     let alloc = rt.alloc();
     let mut text = String::from_str(alloc, "[program]\n")?;
-    for thread in 0..16 {
-        write!(
-            text,
-            "thread t{thread} priority {thread} queue 2 state 0 log 8\n"
-        )?;
-    }
+    declare_threads(&mut text)?;
     let mut readings = String::from_str(alloc, "[sensors]\n")?;
     let mut charge = String::from_str(alloc, "[power]\ncharge 0")?;
     for thread in 0..16 {
@@ -116,7 +109,15 @@ fn sixteen_threads_are_served_in_the_order_of_their_priorities(
         write!(readings, "S{thread} {thread}\n")?;
         write!(charge, " S{thread}*9")?;
     }
-    let mut printed = String::new(alloc);
+    Ok(format!(in alloc; "{text}{readings}{charge} K*3000\n")?)
+}
+
+#[test]
+fn sixteen_threads_are_served_in_the_order_of_their_priorities(
+    rt: HostRuntime,
+) -> Result<(), Fail> {
+    let text = sixteen_threads(&rt)?;
+    let mut printed = String::new(rt.alloc());
     let commits = [
         (1, 15),
         (2, 14),
@@ -138,16 +139,10 @@ fn sixteen_threads_are_served_in_the_order_of_their_priorities(
     for (commit, thread) in commits {
         write!(printed, "{commit} t{thread} {thread}\n")?;
     }
-    for thread in 0..16 {
-        write!(
-            printed,
-            "thread t{thread} served 1 trapped 0 expired 0 held 0\n"
-        )?;
-    }
+    tell_served(&mut printed)?;
     for source in 0..16 {
         write!(printed, "source S{source} next 1 pushed 1 refused 0\n")?;
     }
     printed.push_str("clock 0 commits 16 charges 1\n")?;
-    let text = format!(in alloc; "{text}{readings}{charge} K*3000\n")?;
     prints(&rt, text.as_str(), printed.as_str())
 }

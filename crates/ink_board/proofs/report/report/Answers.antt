@@ -18,7 +18,7 @@ run_text-requires-clause-reportable c =
     let model : c.in_ok-model.model ≡ after job.program job.readings (journal_in c.args.run.now) =
     c.in_ok-model.ensures ∙ ap (λ l. after job.program job.readings l) (c.as_slice-2.ensures.value ∙ entries) in
     subst (λ (z : Program × Model × List Entry). IsReportable z.0 z.1 z.2) (λ i. (sym c.accepted.ensures.same i, sym model i, sym (c.as_slice-3.ensures.value ∙ entries) i))
-    (legal_reportable job.program job.readings (journal_in c.args.run.now) c.requires.legal)
+    (legal_reportable job.program job.readings (journal_in c.args.run.now) c.requires.ran.legal)
 
 pub returns : goal.returns
 returns c =
@@ -27,4 +27,4 @@ returns c =
     let model : c.in_ok-model.model ≡ after job.program job.readings (journal_in c.args.run.now) =
     c.in_ok-model.ensures ∙ ap (λ l. after job.program job.readings l) (c.as_slice-2.ensures.value ∙ entries) in
     subst (λ (z : Program × Model × List Entry × ℕ × Flags). IfOk c.run_text.result (λ text. text.items ≡ run_text z.0 z.1 z.2 z.3 z.4))
-    (λ i. (c.accepted.ensures.same i, model i, (c.as_slice-3.ensures.value ∙ entries) i, length (c.charges.ensures.same i), c.flags.ensures i)) c.run_text.ensures
+    (λ i. (c.accepted.ensures.same i, model i, (c.as_slice-3.ensures.value ∙ entries) i, length (c.charges.ensures.same i), c.args.flags)) c.run_text.ensures
