@@ -18,18 +18,14 @@ fn begins(values: &[u32], first: u32, second: u32) -> bool {
     }
 }
 
-fn item_turns(items: &[Item]) -> u32 {
-    match items {
-        [] => 0,
-        [item, rest @ ..] => item.count.saturating_add(item_turns(rest)),
-    }
-}
-
 fn turns(charges: &[Charge]) -> u32 {
-    match charges {
-        [] => 0,
-        [charge, rest @ ..] => item_turns(charge.items.as_slice()).saturating_add(turns(rest)),
+    let mut turns: u32 = 0;
+    for charge in charges {
+        for item in charge.items.as_slice() {
+            turns = turns.saturating_add(item.count);
+        }
     }
+    turns
 }
 
 fn is_first_charge(charge: &Charge) -> bool {
@@ -65,29 +61,21 @@ fn have_same_names(a: &Accepted, b: &Accepted) -> bool {
 }
 
 fn are_same_readings(a: &[Items<u32>], b: &[Items<u32>]) -> bool {
-    match a {
-        [] => b.is_empty(),
-        [first, rest @ ..] => match b {
-            [] => false,
-            [second, others @ ..] => {
-                first.as_slice() == second.as_slice() && are_same_readings(rest, others)
-            }
-        },
+    for (first, second) in a.iter().zip(b.iter()) {
+        if first.as_slice() != second.as_slice() {
+            return false;
+        }
     }
+    a.len() == b.len()
 }
 
 fn are_same_charges(a: &[Charge], b: &[Charge]) -> bool {
-    match a {
-        [] => b.is_empty(),
-        [first, rest @ ..] => match b {
-            [] => false,
-            [second, others @ ..] => {
-                first.off == second.off
-                    && first.items.as_slice() == second.items.as_slice()
-                    && are_same_charges(rest, others)
-            }
-        },
+    for (first, second) in a.iter().zip(b.iter()) {
+        if first.off != second.off || first.items.as_slice() != second.items.as_slice() {
+            return false;
+        }
     }
+    a.len() == b.len()
 }
 
 fn are_same(a: &Job, b: &Job) -> bool {
