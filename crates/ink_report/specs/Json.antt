@@ -47,5 +47,5 @@ summary_data program m journal charges =
     (member (codes "threads") (array (items_of (data_below (length program.threads) (thread_data program m)))) no_members)))))
 
 -- its compact text and a newline
-abbrev pub json_line : Program → Model → List Entry → ℕ → List ℕ
+unfoldable pub json_line : Program → Model → List Entry → ℕ → List ℕ
 json_line program m journal charges = compact_text (summary_data program m journal charges) ++ codes "\n"

@@ -2,7 +2,7 @@ use Rattle.std.proofs.Common.{◌≡◌, ℕ, List, ◌++◌, codes, string_byte
 use Rattle.serde_json.specs.View.{view}
 use Rattle.serde_json.specs.Data.{Data}
 use Rattle.serde_json.specs.Written.{has_float, compact_text}
-use Rattle.ink_report.specs.Json.{summary_data}
+use Rattle.ink_report.specs.Json.{summary_data, json_line}
 use Rattle.ink_report.proofs.Values.{summary_has_no_float}
 use Rattle.ink_report.proofs.json.put_json.Goals as goal
 
@@ -12,6 +12,7 @@ line_more old line bytes first now same e f =
     f ∙ (ap (λ (l : List ℕ). l ++ codes "\n") e ∙ append_assoc old bytes (codes "\n") ∙ ap (λ (l : List ℕ). old ++ (l ++ codes "\n")) same)
 
 pub returns : goal.returns
+unfolding json_line
 returns c =
     let summary : Data = summary_data c.args.program.now c.args.model.now c.args.entries.now c.args.charges in
     let shown : view c.in_ok-summary_value.field-0 ≡ summary = c.in_ok-summary_value.ensures in
