@@ -15,7 +15,7 @@ syn match inkJobComment /#.*$/ contains=inkJobTodo
 syn keyword inkJobTodo TODO FIXME XXX contained
 
 " Headers of sections; another line that begins with a bracket is none
-syn match inkJobNoHeader /^\s*\[[^#]*/
+syn match inkJobNoHeader /^\s*\zs\[[^#]*/
 syn match inkJobHeader /^\s*\zs\[\%(program\|sensors\|power\)\]\ze\s*\%(#\|$\)/
 
 " Words within lines
