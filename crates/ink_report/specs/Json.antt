@@ -1,4 +1,4 @@
--- The summary as one line of compact JSON, its keys in ascending order. A name is letters, digits and _, so its text has no escape.
+-- The summary as one line of compact JSON, its keys in ascending order.
 use Rattle.std.specs.Prelude.{ℕ, List, ◌++◌, length, map, count_by, codes}
 use Rattle.std.specs.List.{range_with_len}
 use Rattle.serde_json.specs.Data.{Data, number, unsigned, string, array, object, Members, no_members, member}

@@ -3,7 +3,7 @@
 ghost use Rattle.kernel_core.specs.Moves.{EveryPrefixStands};
 ghost use Rattle.kernel_core.specs.Scanned.{EveryCommitScanned};
 
-/// The law of the board, for every accepted program, every readings within the limits, and every order of
+/// The law of the board, for every accepted program, any readings within the limits, and every order of
 /// turns of sources, clock and kernel and of cuts. After each access and each cut the one journal kept so far is legal, and the words
 /// of the FRAM stand for the never-cut kernel after it.
 ///

@@ -47,7 +47,7 @@ unfoldable pub drawn_charges : ℕ → ℕ → List Charge
 drawn_charges number zero = []
 drawn_charges number (suc n) = drawn_charges number n ++ drawn_charge number (1000 + 5 * n) ∷ []
 
--- turns enough for every reading to be settled and served
+-- a long one at the end
 abbrev pub last_charge : Charge
 last_charge = record {
   off = 0;
@@ -61,7 +61,7 @@ last_charge = record {
 abbrev pub soak_charges : ℕ → List Charge
 soak_charges number = drawn_charges number 200 ++ last_charge ∷ []
 
--- the program: a thread fed by two sources, with a task that adds up what it is given and writes each sum
+-- the program: a thread fed by two sources, with a task that adds up what it is given and puts out each sum
 abbrev pub soak_code : List Instr
 soak_code = Li 1 0 ∷ Ld 2 1 ∷ Ev 3 ∷ Add 2 2 3 ∷ St 2 1 ∷ Out 2 ∷ Done ∷ []
 

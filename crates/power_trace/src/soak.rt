@@ -12,12 +12,13 @@ use ink_base::{Actor, NoMemory, SourceId};
 use sqlite_items::Items;
 use std::alloc::Global;
 
-// The readings of each source, and the charges that are drawn.
+// The readings of each source.
 const READINGS: usize = 500;
 
+// The charges that are drawn.
 const CHARGES: usize = 200;
 
-// The charge with turns enough for all readings.
+// The last charge, which is long.
 fn last_charge(alloc: Global) -> Result<Charge, NoMemory>
     ensures { IfOk result (λ charge. charge ≡ last_charge) }
 {
@@ -64,7 +65,7 @@ fn drawn_parts(alloc: Global, number: u32) -> Result<(Items<Items<u32>>, Items<C
 ///
 /// Its program has one thread `a`, with a queue of 4 and a log of 4,096 places, two sources that feed it, and a task that adds
 /// up what it is given and puts out each sum. Each source has 500 readings. Of the 201 charges 200 are drawn, and the last one
-/// has turns enough for all readings to be settled and served.
+/// is long: 5,000 turns of each source and 2,000 of the kernel.
 ///
 /// For a draw the state x, at first the number, becomes (x * 1664525 + 1013904223) mod 2^32, and its upper 16 bits are drawn.
 /// First come the readings of the first source, then those of the second, and then for each charge five draws: the ticks that
