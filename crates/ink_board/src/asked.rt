@@ -158,13 +158,11 @@ impl Asked {
     fn with_number(self, digits: &[u8]) -> Option<Asked>
         ensures { result ≡ words.with_number self (words.seed_said digits.now) }
     {
-        match seed_said(digits) {
-            Some(number) => Some(Asked {
-                seed: Seed::Given(number),
-                ..self
-            }),
-            None => None,
-        }
+        let number = seed_said(digits)?;
+        Some(Asked {
+            seed: Seed::Given(number),
+            ..self
+        })
     }
 
     fn with_mode(self, mode: Option<Mode>) -> Option<Asked>
@@ -179,7 +177,8 @@ impl Asked {
         }
     }
 
-    /// The command that was asked for; none where no mode was named, or a flag that the mode doesn't have, or not one that it needs.
+    /// The command that was asked for; none where no mode was named, a flag was given that the mode doesn't have, or one is missing that
+    /// it needs.
     pub fn command(self) -> Option<Command>
         ensures { result ≡ words.command_in self }
     {

@@ -16,13 +16,13 @@ use std::alloc::Global;
 
 /// Does what the words after the program's name say. `run` reads a job from the source, runs its board, and writes the text of the run to
 /// the sink, with what its flags show; `soak` does so for the job that is generated from its number, without the outputs; `print` reads a
-/// job and writes the canonical text of its program. The words are in docs/FORMATS.md, "Words and exit statuses".
+/// job and writes the canonical text of its program. The words are in docs/FORMATS.md, "The words".
 ///
 /// `Usage`: the words are no command, and nothing was read. `ReadFault`: a read failed. `TooLong`: the source gave a byte more than a job may
 /// have. `Refused`: the bytes to the end of the source have a fault, and this is the first one with its line. `NoMemory`: memory was refused.
 /// After all of these nothing was written, and nothing is kept. `Done`: the command's record for its job is kept, and its whole text was
-/// written. `WriteFault`: the same, but a write failed, and a part of the text from its beginning was written. A command whose source has
-/// the text of a job is done where no read or write fails, unless memory is refused.
+/// written. `WriteFault`: the same, but a write failed, and a part of the text from its beginning was written. A command is done, unless
+/// memory is refused, where no read or write fails and its source has and tells the text of a job; `soak` needs no source.
 pub fn board<S: Source, K: Sink>(
     alloc: Global,
     words: &[String],
@@ -43,19 +43,24 @@ pub fn board<S: Source, K: Sink>(
         result.status }
 {
     match command_of(words) {
-        Some(command) => done(alloc, command, source, sink),
-        None => stopped(Status::Usage),
+        Some(command) => carry_out(alloc, command, source, sink),
+        None => stop(Status::Usage),
     }
 }
 
-fn stopped(status: Status) -> Finish
+// Nothing was made and nothing is kept.
+fn stop(status: Status) -> Finish
     ensures { result ≡ record { status = status; kept = None } }
 {
     Finish { status, kept: None }
 }
 
-// What a command does.
-fn done<S: Source, K: Sink>(alloc: Global, command: Command, source: &mut S, sink: &mut K) -> Finish
+fn carry_out<S: Source, K: Sink>(
+    alloc: Global,
+    command: Command,
+    source: &mut S,
+    sink: &mut K,
+) -> Finish
     ensures told { TellsCommand command
         (record { left = S.left source.old; faults = S.faults source.old; reads = S.reads source.old })
         (record { left = S.left source.new; faults = S.faults source.new; reads = S.reads source.new })
@@ -63,14 +68,14 @@ fn done<S: Source, K: Sink>(alloc: Global, command: Command, source: &mut S, sin
         (record { held = K.held sink.new; faults = K.faults sink.new })
         result.status result.kept }
 {
-    match made(alloc, command, source) {
-        Ok(made) => written(sink, command, made),
-        Err(status) => stopped(status),
+    match make_of_job(alloc, command, source) {
+        Ok(made) => write_made(sink, made),
+        Err(status) => stop(status),
     }
 }
 
 // What a command makes of its job.
-fn made<S: Source>(alloc: Global, command: Command, source: &mut S) -> Result<Made, Status>
+fn make_of_job<S: Source>(alloc: Global, command: Command, source: &mut S) -> Result<Made, Status>
     ensures record { IfOk result (λ made. Makes command
         (record { left = S.left source.old; faults = S.faults source.old; reads = S.reads source.old })
         (record { left = S.left source.new; faults = S.faults source.new; reads = S.reads source.new })
@@ -124,14 +129,12 @@ fn read_and_parse<S: Source>(alloc: Global, source: &mut S) -> Result<Job, Statu
     }
 }
 
-// Writes the text of what was made.
-fn written<K: Sink>(sink: &mut K, command: Command, made: Made) -> Finish
-    requires { made.text.items ≡ text_of command made.record }
+// Writes the text of what was made, and keeps its record.
+fn write_made<K: Sink>(sink: &mut K, made: Made) -> Finish
     ensures kept { result.kept ≡ Some made.record }
     ensures wrote { Wrote (record { held = K.held sink.old; faults = K.faults sink.old })
-        (record { held = K.held sink.new; faults = K.faults sink.new }) (text_of command made.record) result.status }
+        (record { held = K.held sink.new; faults = K.faults sink.new }) made.text.items result.status }
 {
-    let _command = command;
     let status = match write_all_text(sink, made.text.as_slice()) {
         Ok(()) => Status::Done,
         Err(_) => Status::WriteFault,

@@ -12,10 +12,7 @@ use crate::command::Command;
 pub fn command_of(words: &[String]) -> Option<Command>
     ensures { result ≡ command_of (map string_bytes words.now) }
 {
-    match asked_from(Asked::nothing(), words) {
-        Some(asked) => asked.command(),
-        None => None,
-    }
+    asked_from(Asked::nothing(), words)?.command()
 }
 
 // What was asked for with these words, too. Each word is good once, so this ends after a few of them.
@@ -24,9 +21,6 @@ fn asked_from(asked: Asked, words: &[String]) -> Option<Asked>
 {
     match words {
         [] => Some(asked),
-        [word, rest @ ..] => match asked.with(word.as_str()) {
-            Some(next) => asked_from(next, rest),
-            None => None,
-        },
+        [word, rest @ ..] => asked_from(asked.with(word.as_str())?, rest),
     }
 }

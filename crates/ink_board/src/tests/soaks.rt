@@ -11,7 +11,7 @@ use std::test::Fail;
 const SOAKED: &str =
     "thread a served 175 trapped 0 expired 0 held 0\nsource S0 next 500 pushed 87 refused 413\nsource S1 next 500 pushed 88 refused 413\nclock 976 commits 175 charges 201\n";
 
-// The text of a soak, whose source fails where it is read.
+// Writes the text of a soak, whose source fails where it is read.
 fn soaked<R: Abort + AllocGlobal>(rt: &R, words: &[&str], sink: &mut MemSink) -> Result<(), Fail> {
     let alloc = rt.alloc();
     let words = run_words(rt, words)?;
@@ -23,7 +23,7 @@ fn soaked<R: Abort + AllocGlobal>(rt: &R, words: &[&str], sink: &mut MemSink) ->
 }
 
 #[test]
-fn every_reading_of_a_generated_job_is_settled_and_served(rt: HostRuntime) -> Result<(), Fail> {
+fn every_reading_of_a_generated_job_is_settled(rt: HostRuntime) -> Result<(), Fail> {
     let alloc = rt.alloc();
     let mut apart = MemSink::new(alloc, 2000, 100, Vec::new(alloc))?;
     let mut joined = MemSink::new(alloc, 2000, 100, Vec::new(alloc))?;
