@@ -3,3 +3,4 @@ pub mod Shape
 pub mod Changes
 pub mod Words
 pub mod Accesses
+pub mod Steps

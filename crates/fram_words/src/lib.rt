@@ -4,7 +4,9 @@
 mod access;
 mod fram;
 mod layout;
+mod place;
 
 pub use access::Access;
 pub use fram::Fram;
 pub use layout::{Layout, QueuePlace, ThreadPlace};
+pub use place::{Place, Step};

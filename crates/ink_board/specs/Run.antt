@@ -4,6 +4,7 @@ use Rattle.std.specs.List.{flat_map}
 use Rattle.ink_base.specs.declared.entry.Entry.{Entry}
 use Rattle.ink_layout.specs.Image.{IsFirstImage}
 use Rattle.power_trace.specs.Job.{JobParts}
+use Rattle.never_cut.specs.State.{open_model}
 use Rattle.never_cut.specs.Journal.{after, IsLegal}
 use Rattle.never_cut.specs.Laws.{ReadingsInOrder, EachEventOnce, StatesByCommits, StampsByCommits}
 use Rattle.kernel_core.specs.declared.run_record.RunRecord.{RunRecord}
@@ -41,14 +42,14 @@ pub record IsRunOf (job : JobParts) (r : RunRecord) : Type 0 where
   pub words : r.words ≡ (board_run job first).words
   pub stands : (n : ℕ) → BoardStands (setup_of job) (board_after job first n)
   pub grows : (n : ℕ) → (more : List Entry) × (journal_in r ≡ journal (board_after job first n) ++ more)
-  pub legal : IsLegal job.program job.readings (journal_in r)
+  pub legal : IsLegal job.program job.readings (open_model job.program) (journal_in r)
   pub few : length (journal_in r) < 2 ^ 32
-  pub in_order : ReadingsInOrder job.program job.readings (journal_in r)
-  pub each_once : EachEventOnce job.program job.readings (journal_in r)
-  pub states : StatesByCommits job.program job.readings (journal_in r)
-  pub stamps : StampsByCommits job.program job.readings (journal_in r)
+  pub in_order : ReadingsInOrder job.program job.readings (open_model job.program) (journal_in r)
+  pub each_once : EachEventOnce job.program job.readings (open_model job.program) (journal_in r)
+  pub states : StatesByCommits job.program job.readings (open_model job.program) (journal_in r)
+  pub stamps : StampsByCommits job.program job.readings (open_model job.program) (journal_in r)
   pub scanned : ChargesAreScanned r.charges
 
 -- the text of a run: the outputs that its journal committed, the summary, and what is shown besides
 abbrev pub run_text_of : RunRecord → Flags → List ℕ
-run_text_of r flags = report.run_text r.job.program (after r.job.program r.job.readings (journal_in r)) (journal_in r) (length r.job.charges) flags
+run_text_of r flags = report.run_text r.job.program (after r.job.program r.job.readings (open_model r.job.program) (journal_in r)) (journal_in r) (length r.job.charges) flags

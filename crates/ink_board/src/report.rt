@@ -3,6 +3,7 @@
 ghost use Rattle.std.specs.Prelude.{◌≡◌, IfOk};
 ghost use Rattle.std.specs.List.{flat_map};
 ghost use Rattle.never_cut.specs.Journal.{after};
+ghost use Rattle.never_cut.specs.State.{open_model};
 ghost use Rattle.ink_report.specs.Conditions.{IsSupported};
 ghost use Rattle.ink_board.specs.Run.{IsRunOf, run_text_of, journal_in, entries_of};
 
@@ -35,7 +36,7 @@ pub fn report(alloc: Global, run: &RunRecord, flags: Flags) -> Result<Vec<u8>, N
 fn state_after(alloc: Global, run: &RunRecord, entries: &[Entry]) -> Result<Model, NoMemory>
     requires ran { IsRunOf run.now.job run.now }
     requires journal { entries.now ≡ journal_in run.now }
-    ensures { IfOk result (λ m. m ≡ after run.now.job.program run.now.job.readings entries.now) }
+    ensures { IfOk result (λ m. m ≡ after run.now.job.program run.now.job.readings (open_model run.now.job.program) entries.now) }
 {
     match replay(alloc, run.job.accepted(), run.job.readings(), entries) {
         Ok(model) => Ok(model),

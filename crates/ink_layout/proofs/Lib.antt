@@ -4,3 +4,4 @@ pub mod Bounds
 pub mod Layouts
 pub mod Stages
 pub mod Images
+pub mod Below

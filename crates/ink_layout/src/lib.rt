@@ -1,6 +1,7 @@
 //! What the machines of the kernel speak of: where a program's words stand, its first image, and what a step and a scan tell.
 #![tactic(auto)]
 
+mod door;
 mod image;
 mod kernel_point;
 mod making;
@@ -9,6 +10,7 @@ mod plan;
 mod slot_at;
 mod starts;
 
+pub use door::slot_of;
 pub use fram_words::{Layout, QueuePlace, ThreadPlace};
 pub use image::first_image;
 pub use kernel_point::KernelPoint;

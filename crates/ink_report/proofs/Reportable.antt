@@ -15,11 +15,11 @@ use Rattle.never_cut.specs.State.{thread_of, source_of, is_running, open_model, 
 use Rattle.never_cut.specs.Pending.{pending}
 use Rattle.never_cut.specs.Commit.{stamped, thread_after, with_first, expired_after, consumed, ended, expired, is_expired, end_at, committed, commit}
 use Rattle.never_cut.specs.Entries.{Readings, Legal, effect, pushed, released, next_event, fed_by, with_accepted, with_refused, with_skipped}
-use Rattle.never_cut.specs.Journal.{after_from, after, IsLegalFrom, IsLegal}
+use Rattle.never_cut.specs.Journal.{after, IsLegal}
 use Rattle.ink_report.specs.Conditions.{NamesPart, IsReportable}
 
 -- the parts of a state that a text shows
-record HasParts (program : Program) (m : Model) : Type 0 where
+pub record HasParts (program : Program) (m : Model) : Type 0 where
   threads : length m.threads ≡ length program.threads
   sources : length m.sources ≡ length program.sources
   outputs : All (λ (o : Output). o.thread.0 < length program.threads) m.outputs
@@ -101,13 +101,13 @@ effect_parts program readings m (Release t) legal h = record {
   outputs = h.outputs;
 }
 
-after_parts : (program : Program) (readings : Readings) (m : Model) (journal : List Entry) → IsLegalFrom program readings m journal → HasParts program m →
-    HasParts program (after_from program readings m journal)
+after_parts : (program : Program) (readings : Readings) (m : Model) (journal : List Entry) → IsLegal program readings m journal → HasParts program m →
+    HasParts program (after program readings m journal)
 after_parts program readings m [] legal h = h
 after_parts program readings m (e ∷ journal) legal h =
     after_parts program readings (effect program readings m e) journal legal.1 (effect_parts program readings m e legal.0 h)
 
-open_parts : (program : Program) → HasParts program (open_model program)
+pub open_parts : (program : Program) → HasParts program (open_model program)
 open_parts program = record {
   threads = length-map program.threads open_thread;
   sources = length-map program.sources open_source;
@@ -125,7 +125,7 @@ legal_names program readings m (Look t) legal = legal.0
 legal_names program readings m (Commit t) legal = legal.0
 legal_names program readings m (Release t) legal = legal.0
 
-journal_names : (program : Program) (readings : Readings) (m : Model) (journal : List Entry) → IsLegalFrom program readings m journal →
+journal_names : (program : Program) (readings : Readings) (m : Model) (journal : List Entry) → IsLegal program readings m journal →
     (k : ℕ) (d : Entry) → k < length journal → NamesPart program (slice_index_or journal k d)
 journal_names program readings m [] legal k d lt = absurd (omega arith)
 journal_names program readings m (e ∷ journal) legal zero d lt = legal_names program readings m e legal.0
@@ -133,13 +133,13 @@ journal_names program readings m (e ∷ journal) legal (suc k) d lt =
     journal_names program readings (effect program readings m e) journal legal.1 k d (omega arith)
 
 -- so a run's text can be asked for wherever its journal is legal
-pub legal_reportable : (program : Program) (readings : Readings) (journal : List Entry) → IsLegal program readings journal →
-    IsReportable program (after program readings journal) journal
-legal_reportable program readings journal legal =
-    let parts = after_parts program readings (open_model program) journal legal (open_parts program) in
+pub legal_reportable : (program : Program) (readings : Readings) (first : Model) (journal : List Entry) → HasParts program first → IsLegal program readings first journal →
+    IsReportable program (after program readings first journal) journal
+legal_reportable program readings first journal start legal =
+    let parts = after_parts program readings first journal legal start in
     record {
       threads = parts.threads;
       sources = parts.sources;
       outputs = parts.outputs;
-      entries = λ k d lt. journal_names program readings (open_model program) journal legal k d lt;
+      entries = λ k d lt. journal_names program readings first journal legal k d lt;
     }

@@ -17,15 +17,15 @@ use Rattle.kernel_core.specs.Recorded.{Recorded}
 use Rattle.ink_base.specs.declared.entry.Entry.TheVariants.{Tick}
 use Rattle.never_cut.specs.declared.model.Model.{Model}
 use Rattle.never_cut.specs.Journal.{noted, after}
-use Rattle.never_cut.specs.State.{open_model}
-use Rattle.never_cut.proofs.Journals.{after_from-noted}
+use Rattle.never_cut.specs.Within.{Lasts}
+use Rattle.never_cut.proofs.Lasting.{lasts_less}
 use Rattle.kernel_core.specs.Board.{Board, shape, journal, cut}
 use Rattle.kernel_core.specs.Holds.{state}
 use Rattle.kernel_core.specs.Core.{IsCore, AreRecords, CanCount, StaysInRange, setup_of, charge_in, row_in, rebooted, none_recorded, no_pusher, turns_in, turns_from}
 use Rattle.kernel_core.proofs.CoreJobs.{turns_split}
 use Rattle.kernel_core.proofs.Charges.{noted_last, fresh}
 use Rattle.kernel_core.proofs.Turns.{Goes}
-use Rattle.kernel_core.proofs.Cuts.{cut_goes}
+use Rattle.kernel_core.proofs.Cuts.{cut_goes, cut_lasts}
 use Rattle.kernel_core.proofs.CoreSteps.{map-set, charge_at, clock_word, records_count}
 
 rows_lost : (ps : List Pusher) → map row_in (map rebooted ps) ≡ replicate (length ps) first_row
@@ -106,27 +106,18 @@ module _ (job : JobParts) (l : Layout) (b : Board) (room : ℕ) (ps : List Pushe
         begun = b.begun + 1;
       }
 
-  -- ticks are no commits
-  same_commits : (state (setup_of job) (cut (setup_of job) b off)).commits ≡ (state (setup_of job) b).commits
-  same_commits =
-      let lt : b.begun < length b.charges = let e = h.holds.size.charges_count in omega arith in
-      let one_more : suc b.begun ≡ b.begun + 1 = omega arith in
-      let journal_is : journal (cut (setup_of job) b off) ≡ noted (journal b) (Some (Tick off)) =
-      subst (λ n. journal_of (set b.charges b.begun (begun off (charge_of b.charges b.begun))) n ≡ noted (journal b) (Some (Tick off))) one_more
-      (noted_last b.charges b.begun (begun off (charge_of b.charges b.begun)) (Some (Tick off)) lt refl
-      ∙ ap (λ l. noted l (Some (Tick off))) (fresh b.charges b.begun (h.holds.size.later b.begun (omega arith)))) in
-      ap (λ (m : Model). m.commits) (ap (λ l. after job.program job.readings l) journal_is ∙ after_from-noted job.program job.readings (open_model job.program) (journal b) (Some (Tick off)))
-
   -- the ranges after the cut
   range_after : (next : Board) → next.begun ≡ b.begun + 1 → next ≡ cut (setup_of job) b off → Goes (setup_of job) (length job.charges) b next off →
       StaysInRange job (state (setup_of job) next) next.begun (turns_in job b.begun)
   range_after next same is go =
-      let commits : (state (setup_of job) next).commits ≡ (state (setup_of job) b).commits = ap (λ z. (state (setup_of job) z).commits) is ∙ same_commits in
       let split : turns_from job b.begun ≡ turns_in job b.begun + turns_from job (b.begun + 1) = turns_split job b.begun more in
       subst (λ n. StaysInRange job (state (setup_of job) next) n (turns_in job b.begun)) (sym same)
       (record {
         clock = let e = h.range.clock in let c = go.clock in omega arith;
-        commits = let e = h.range.commits in omega arith;
+        counts = subst (λ z. Lasts (turns_in job b.begun + turns_from job (b.begun + 1)) (state (setup_of job) z)) (sym is)
+            (cut_lasts (setup_of job) (length job.charges) b off (turns_in job b.begun + turns_from job (b.begun + 1)) h.holds more
+            (lasts_less (room + turns_from job b.begun) (turns_in job b.begun + turns_from job (b.begun + 1)) (state (setup_of job) b) (omega arith) h.range.counts));
+        turns = let e = h.range.turns in omega arith;
       })
 
   -- the record of the charge that has begun
@@ -136,7 +127,7 @@ module _ (job : JobParts) (l : Layout) (b : Board) (room : ℕ) (ps : List Pushe
   records_after : (x : Recorded) → x.charge ≡ begun off (get_or records b.begun none_recorded).charge → (get_or records b.begun none_recorded).spare ≤ x.spare + 1 → AreRecords job (b.begun + 1) (turns_in job b.begun) (set records b.begun x)
   records_after x counts spare =
       let r = h.records_are in
-      let few : turns_in job b.begun < 2 ^ 32 = let split = turns_split job b.begun more in let e = h.range.commits in omega arith in
+      let few : turns_in job b.begun < 2 ^ 32 = let split = turns_split job b.begun more in let e = h.range.turns in omega arith in
       let index : b.begun + 1 - 1 ≡ b.begun = omega arith in
       record {
         counts = subst (λ n. CanCount (turns_in job b.begun) (get_or (set records b.begun x) n none_recorded).charge) (sym index)

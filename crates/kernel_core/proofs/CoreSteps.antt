@@ -20,6 +20,8 @@ use Rattle.ink_layout.specs.Shape.{IsOnBoard}
 use Rattle.ink_layout.proofs.Regions.{valid, below}
 use Rattle.never_cut.specs.declared.model.Model.{Model}
 use Rattle.never_cut.specs.Actors.{IsAllowed}
+use Rattle.never_cut.specs.Within.{Lasts}
+use Rattle.never_cut.proofs.Lasting.{lasts_less}
 use Rattle.push_core.specs.declared.pusher.Pusher.{Pusher}
 use Rattle.power_trace.specs.Job.{JobParts}
 use Rattle.reboot.proofs.Ranges.{boot_in_range}
@@ -34,7 +36,7 @@ use Rattle.kernel_core.specs.Recorded.{Recorded}
 use Rattle.kernel_core.specs.Board.{Setup, Board, shape, finds, charged, kernel_access, kernel_turn, clock_turn, turn}
 use Rattle.kernel_core.specs.Holds.{Holds, BoardStands, memory, state}
 use Rattle.kernel_core.specs.Made.{kernel_made, clock_made}
-use Rattle.kernel_core.specs.Core.{IsCore, IsPusher, AreRecords, CanCount, StaysInRange, setup_of, charge_in, row_in, none_recorded, no_pusher, turns_in}
+use Rattle.kernel_core.specs.Core.{IsCore, IsPusher, AreRecords, CanCount, StaysInRange, setup_of, charge_in, row_in, none_recorded, no_pusher, turns_in, turns_from}
 use Rattle.kernel_core.proofs.Turns.{Goes, kernel_goes, background_of}
 use Rattle.kernel_core.proofs.Cuts.{clock_goes}
 use Rattle.kernel_core.proofs.KernelPlaces.{kernel_on}
@@ -80,8 +82,8 @@ module _ (job : JobParts) (l : Layout) (b : Board) (room : ℕ) (ps : List Pushe
   pub stands : BoardStands (setup_of job) b
   stands = board_stands (setup_of job) (length job.charges) b h.is_setup h.holds
 
-  commits_room : 0 < room → (state (setup_of job) b).commits + 1 < 2 ^ 32
-  commits_room some = let c = h.range.commits in omega arith
+  commits_room : 0 < room → Lasts 0 (state (setup_of job) b)
+  commits_room some = lasts_less (room + turns_from job b.begun) 0 (state (setup_of job) b) (omega arith) h.range.counts
 
   on_board : 0 < room → IsOnBoard job.program (place_of (wants job.program b.kernel))
   on_board some = kernel_on (setup_of job) (memory (setup_of job) b) (state (setup_of job) b) b.kernel h.is_setup (background_of (setup_of job) (length job.charges) b h.is_setup h.holds) (commits_room some) h.holds.registers
@@ -187,7 +189,8 @@ module _ (job : JobParts) (l : Layout) (b : Board) (room : ℕ) (ps : List Pushe
       subst (λ n. StaysInRange job (state (setup_of job) next) n (room - 1)) (sym same)
       (record {
         clock = let e = h.range.clock in let c = go.clock in omega arith;
-        commits = let e = h.range.commits in let c = go.commits in omega arith;
+        counts = go.counts (room - 1 + turns_from job b.begun) (lasts_less (room + turns_from job b.begun) (room - 1 + turns_from job b.begun + 1) (state (setup_of job) b) (omega arith) h.range.counts);
+        turns = let e = h.range.turns in omega arith;
       })
 
   -- the core after a turn that leaves the rows

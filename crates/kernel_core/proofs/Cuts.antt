@@ -17,8 +17,8 @@ use Rattle.source_laws.specs.Steps as steps
 use Rattle.source_laws.proofs.Steps.{kept_step}
 use Rattle.never_cut.specs.declared.model.Model.{Model}
 use Rattle.never_cut.specs.Journal.{after, moved, noted}
-use Rattle.never_cut.specs.State.{open_model}
-use Rattle.never_cut.proofs.Journals.{after_from-noted}
+use Rattle.never_cut.specs.Within.{Lasts}
+use Rattle.never_cut.proofs.Journals.{after-noted}
 use Rattle.never_cut.specs.Stands.{StandsPrivate}
 use Rattle.never_cut.specs.Steps.{Background}
 use Rattle.never_cut.specs.Actors.{SamePrivate, IsPrivate}
@@ -93,7 +93,7 @@ clock_goes s count b g h some room =
     (ap (λ (n : Memory). n Clock) words ∙ clock_ticked s count b 1 g h room)
     (subst (λ (n : Memory). Kept (sides s) (seen n (next_state s count b 1 g h room) (row_of b))) (sym words) (kept_ticked s count b 1 g h room (row_of b) (λ i. inl refl)))
     (subst (λ (n : Memory). KernelHolds s.program n (next_state s count b 1 g h room) b.kernel) (sym words) (registers_ticked s count b 1 g h room))
-    (omega arith) (omega arith)
+    (omega arith)
 
 pub first_rows : (n i : ℕ) → get_or (replicate n first_row) i first_row ≡ first_row
 first_rows n i =
@@ -111,11 +111,12 @@ cut_journal s count b off h left =
     (noted_last b.charges b.begun (begun off (charge_of b.charges b.begun)) (Some (Tick off)) lt refl
     ∙ ap (λ l. noted l (Some (Tick off))) (fresh b.charges b.begun (h.later b.begun (omega arith))))
 
--- a cut commits nothing
-pub cut_commits : (s : Setup) (count : ℕ) (b : Board) (off : ℕ) → Holds s count b → b.begun < count → (state s (cut s b off)).commits ≡ (state s b).commits
-cut_commits s count b off h left =
-    ap (λ (l : List Entry). (after s.program s.readings l).commits) (cut_journal s count b off h.size left)
-    ∙ ap (λ (m : Model). m.commits) (after_from-noted s.program s.readings (open_model s.program) (journal b) (Some (Tick off)))
+-- a cut counts nothing
+pub cut_lasts : (s : Setup) (count : ℕ) (b : Board) (off left : ℕ) → Holds s count b → b.begun < count → Lasts left (state s b) → Lasts left (state s (cut s b off))
+cut_lasts s count b off left h more lasts =
+    let is : state s (cut s b off) ≡ moved s.program s.readings (state s b) (Some (Tick off)) =
+    ap (λ (l : List Entry). after s.program s.readings s.first l) (cut_journal s count b off h.size more) ∙ after-noted s.program s.readings s.first (journal b) (Some (Tick off)) in
+    subst (Lasts left) (sym is) (record { commits = lasts.commits; threads = lasts.threads; taken = lasts.taken })
 
 pub cut_goes : (s : Setup) (count : ℕ) (b : Board) (off : ℕ) → IsSetup s → Holds s count b → b.begun < count → (state s b).clock + off < 2 ^ 47 → Goes s count b (cut s b off) off
 cut_goes s count b off g h left room =
@@ -136,4 +137,4 @@ cut_goes s count b off g h left room =
     (kept_ticked s count b off g h room (row_of (cut s b off)) (λ i. inr (first_rows (length s.program.sources) i))))
     (subst (λ (n : Memory). KernelHolds s.program n (next_state s count b off g h room) first_kernel) (sym words)
     (boot_begins s.program s.readings (ticked s count b off g h room) (next_state s count b off g h room) (background_ticked s count b off g h room), refl))
-    (omega arith) (omega arith)
+    (omega arith)

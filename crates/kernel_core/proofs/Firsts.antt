@@ -1,5 +1,5 @@
 -- The first board holds.
-use Rattle.std.proofs.Common.{◌≡◌, inl, inr, ℕ, zero, suc, ◌+◌, ◌*◌, ◌≤◌, ◌&&◌, Bool, true, false, List, [], ◌∷◌, length, map, take, replicate, get_or, refl, ap, arith}
+use Rattle.std.proofs.Common.{◌≡◌, inl, inr, ℕ, zero, suc, ◌+◌, ◌*◌, ◌≤◌, ◌&&◌, Bool, true, false, List, [], ◌∷◌, length, map, take, replicate, get_or, refl, sym, ap, subst, arith}
 use Rattle.std.specs.Prelude.{nat_lt}
 use Rattle.std.proofs.lemmas.Bool.{cases_lt, le-ltb}
 use Rattle.std.proofs.lemmas.List.{length-map, length-replicate, get_or-replicate, get_or_past}
@@ -14,18 +14,21 @@ use Rattle.ink_layout.proofs.Regions.{in_rest}
 use Rattle.ink_layout.specs.Image.{IsFirstImage}
 use Rattle.push_core.specs.Table.{first_row}
 use Rattle.source_laws.specs.Model.{open_queue}
-use Rattle.source_laws.specs.Steps.{IsFirst}
-use Rattle.source_laws.proofs.Runs.{kept_first}
+use Rattle.source_laws.specs.Kept.{State}
+use Rattle.source_laws.specs.Steps.{IsFirst, IsStart}
+use Rattle.source_laws.proofs.Runs.{start_first, kept_start}
 use Rattle.never_cut.specs.State.{no_thread, no_source, open_model, open_thread, open_source}
 use Rattle.never_cut.proofs.FirstImages.{false_second, nothing_at, first_private}
-use Rattle.never_cut.proofs.SoundStates.{open_sound}
+use Rattle.never_cut.specs.declared.model.Model.{Model}
+use Rattle.never_cut.specs.Stands.{StandsPrivate}
+use Rattle.never_cut.proofs.Lasting.{lasts_less}
 use Rattle.reboot.proofs.Boots.{boot_begins}
 use Rattle.kernel_core.specs.Record.{ChargeRecord, not_begun, charge_of}
 use Rattle.kernel_core.specs.Board.{Setup, Board, shape, sides, row_of, moved_by, first_board}
 use Rattle.kernel_core.specs.Views.{queue_in, source_in, seen}
-use Rattle.kernel_core.specs.Holds.{IsSetup, memory, HasSize, Holds}
-use Rattle.kernel_core.specs.Moves.{EveryPrefixStands}
-use Rattle.kernel_core.proofs.Sides.{places_same, shared_of}
+use Rattle.kernel_core.specs.Holds.{IsSetup, StandsFirst, memory, HasSize, Holds}
+use Rattle.kernel_core.specs.Moves.{turns, EveryPrefixStands}
+use Rattle.kernel_core.proofs.Sides.{places_same, within, shared_of}
 use Rattle.kernel_core.proofs.Cuts.{first_rows}
 use Rattle.kernel_core.proofs.Runs.{moves_hold, moves_taken, ticks_taken, turns_taken}
 use Rattle.kernel_core.proofs.Standing.{board_stands}
@@ -79,9 +82,8 @@ open_queue_at (d ∷ defs) zero = refl
 open_queue_at (d ∷ defs) (suc t) = open_queue_at defs t
 
 -- the sources' side begins
-first_sides : (s : Setup) (words : List ℕ) (charges : ℕ) → IsFirstImage s.program words →
-    IsFirst (sides s) (seen (memory s (first_board s words charges)) (open_model s.program) (row_of (first_board s words charges)))
-first_sides s words charges image = record {
+first_sides : (s : Setup) (words : List ℕ) → IsFirstImage s.program words → IsFirst (sides s) (seen (memory_of (shape s) words) (open_model s.program) (λ i. first_row))
+first_sides s words image = record {
   slots = λ t n lt. let e = places_same s t in elim (cases_lt t (length s.program.threads)) [
     | inl known ↦ image.each (Slot t n) (known, omega arith)
     | inr past ↦
@@ -93,10 +95,20 @@ first_sides s words charges image = record {
   srcs = λ i. first_src s.program words i image;
   queues = λ t. open_queue_at s.program.threads t;
   sources = λ i. ap source_in (open_source_at s.program.sources i);
-  rows = λ i. first_rows (length s.program.sources) i;
+  rows = λ i. refl;
 }
 
-first_size : (s : Setup) (words : List ℕ) (charges : ℕ) → IsFirstImage s.program words → HasSize s charges (first_board s words charges)
+-- the first image stands for the first state
+pub first_stands : (s : Setup) (words : List ℕ) → IsSetup s → s.first ≡ open_model s.program → IsFirstImage s.program words → StandsFirst s words
+first_stands s words g is image = record {
+  count = image.count;
+  private = subst (λ m. StandsPrivate (memory_of (shape s) words) s.program m) (sym is) (first_private s.program words g.accepted image);
+  clock = subst (λ (m : Model). memory_of (shape s) words Clock ≡ m.clock) (sym is) (image.each Clock tt);
+  sources = subst (λ m. IsStart (sides s) (seen (memory_of (shape s) words) m (λ i. first_row))) (sym is)
+      (start_first (sides s) (seen (memory_of (shape s) words) (open_model s.program) (λ i. first_row)) (within s g) (first_sides s words image));
+}
+
+first_size : (s : Setup) (words : List ℕ) (charges : ℕ) → StandsFirst s words → HasSize s charges (first_board s words charges)
 first_size s words charges image = record {
   words = image.count;
   rows = length-replicate (length s.program.sources) first_row;
@@ -111,32 +123,38 @@ first_size s words charges image = record {
       | inr past ↦ ap (λ (c : ChargeRecord). c.entries) (get_or_past (replicate n (not_begun (length s.program.sources))) k (not_begun 0) (rw (length-replicate n (not_begun (length s.program.sources))) past))
     ]
 
-pub first_holds : (s : Setup) (words : List ℕ) (charges : ℕ) → IsSetup s → IsFirstImage s.program words → Holds s charges (first_board s words charges)
+pub first_holds : (s : Setup) (words : List ℕ) (charges : ℕ) → IsSetup s → StandsFirst s words → Holds s charges (first_board s words charges)
 first_holds s words charges g image =
-    let private = first_private s.program words g.accepted image in
-    let kept = kept_first (sides s) (seen (memory s (first_board s words charges)) (open_model s.program) (row_of (first_board s words charges))) (first_sides s words charges image) in
-    let sound = open_sound s.program s.readings g.accepted in
-    let clock : memory_of (shape s) words Clock ≡ 0 = image.each Clock tt in
+    let x : State = seen (memory s (first_board s words charges)) s.first (row_of (first_board s words charges)) in
+    let begins : IsStart (sides s) x = record {
+      queues = image.sources.queues;
+      events = image.sources.events;
+      stands = image.sources.stands;
+      ordered = image.sources.ordered;
+      rows = λ i. first_rows (length s.program.sources) i;
+    } in
+    let kept = kept_start (sides s) x begins in
+    let sound = g.start.sound in
     record {
       size = first_size s words charges image;
       legal = tt;
-      private = private;
-      clock = clock;
+      private = image.private;
+      clock = image.clock;
       kept = kept;
       registers = (
-        boot_begins s.program s.readings (memory s (first_board s words charges)) (open_model s.program)
-            (record { accepted = g.accepted; private = private; shared = shared_of s (memory s (first_board s words charges)) (open_model s.program) (row_of (first_board s words charges)) g sound kept clock; sound = sound }),
+        boot_begins s.program s.readings (memory s (first_board s words charges)) s.first
+            (record { accepted = g.accepted; private = image.private; shared = shared_of s (memory s (first_board s words charges)) s.first (row_of (first_board s words charges)) g sound kept image.clock; sound = sound }),
         refl,
       );
     }
 
 -- after every move of every list
 pub every_prefix : EveryPrefixStands
-every_prefix s words charges moves g image are clock stamps n =
+every_prefix s words charges moves g image are range n =
     let board : Board = first_board s words charges in
     board_stands s charges (moved_by s board (take n moves)) g
     (moves_hold s charges board (take n moves) g (first_holds s words charges g image) (moves_taken s charges 0 n moves are)
     (record {
-      clock = let few = ticks_taken n moves in omega arith;
-      commits = let few = turns_taken n moves in omega arith;
+      clock = let few = ticks_taken n moves in let c = range.clock in omega arith;
+      counts = lasts_less (turns moves) (turns (take n moves)) s.first (turns_taken n moves) range.counts;
     }))

@@ -15,6 +15,8 @@ use Rattle.push_core.specs.Table.{is_left, point_of}
 use Rattle.source_laws.specs.Rows.{port_of}
 use Rattle.never_cut.specs.Entries.{readings_of}
 use Rattle.never_cut.specs.Journal.{noted, IsLegal}
+use Rattle.never_cut.specs.State.{open_model}
+use Rattle.never_cut.proofs.Lasting.{lasts_less}
 use Rattle.task_run.specs.Knows.{HasCode}
 use Rattle.kernel_core.specs.Kernel.{point_found}
 use Rattle.kernel_core.specs.Record.{ChargeRecord, not_begun, with_kernel, with_source, with_tick, journal_of}
@@ -27,9 +29,9 @@ use Rattle.kernel_core.specs.Core.{setup_of}
 use Rattle.kernel_core.proofs.Charges.{charged_journal}
 use Rattle.kernel_core.proofs.Cuts.{cut_journal}
 use Rattle.kernel_core.proofs.Runs.{turn_begun, moves_hold, moves_taken, ticks_taken, turns_taken}
-use Rattle.kernel_core.proofs.Firsts.{first_holds}
+use Rattle.kernel_core.proofs.Firsts.{first_stands, first_holds}
 use Rattle.kernel_core.proofs.CoreRuns.{moved_append}
-use Rattle.kernel_core.proofs.JobMoves.{job_moves, job_ticks, job_turns, job_setup, job_prefixes_stand, charges_turns}
+use Rattle.kernel_core.proofs.JobMoves.{job_moves, job_ticks, job_range, job_setup, job_prefixes_stand, charges_turns}
 
 -- the entry that a move notes, or none
 abbrev Notes : Board → Board → Type 0
@@ -155,11 +157,11 @@ module _ (job : JobParts) (words : List ℕ) (is : IsJob job) (code : HasCode jo
   sizes n =
       let g = job_setup job is code in
       (moves_hold (setup_of job) (length job.charges) (first_board (setup_of job) words (length job.charges)) (take n (moves job.charges)) g
-      (first_holds (setup_of job) words (length job.charges) g image)
+      (first_holds (setup_of job) words (length job.charges) g (first_stands (setup_of job) words g refl image))
       (moves_taken (setup_of job) (length job.charges) 0 n (moves job.charges) (job_moves job is))
       (record {
         clock = let few = ticks_taken n (moves job.charges) in let all = job_ticks job is in omega arith;
-        commits = let few = turns_taken n (moves job.charges) in let all = job_turns job is in omega arith;
+        counts = lasts_less (turns (moves job.charges)) (turns (take n (moves job.charges))) (open_model job.program) (turns_taken n (moves job.charges)) (job_range job is).counts;
       })).size
 
   -- the journal after the first cuts and turns is a beginning of the whole run's
@@ -174,8 +176,8 @@ module _ (job : JobParts) (words : List ℕ) (is : IsJob job) (code : HasCode jo
       omega (arith, ap (λ l. length l) g.all, all_begun (setup_of job) words job.charges, charges_turns job.charges, is.charges.count, is.charges.turns)
 
   -- and it is legal
-  pub run_legal : IsLegal job.program job.readings (journal (run (setup_of job) words job.charges))
+  pub run_legal : IsLegal job.program job.readings (open_model job.program) (journal (run (setup_of job) words job.charges))
   run_legal =
-      subst (λ l. IsLegal job.program job.readings (journal (moved_by (setup_of job) (first_board (setup_of job) words (length job.charges)) l)))
+      subst (λ l. IsLegal job.program job.readings (open_model job.program) (journal (moved_by (setup_of job) (first_board (setup_of job) words (length job.charges)) l)))
       (take_all (length (moves job.charges)) (moves job.charges) (omega arith))
       (job_prefixes_stand job words is code image (length (moves job.charges))).legal

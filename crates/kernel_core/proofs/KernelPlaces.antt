@@ -15,6 +15,7 @@ use Rattle.never_cut.specs.State.{thread_of}
 use Rattle.never_cut.specs.Sound.{IsQueued}
 use Rattle.never_cut.specs.Stands.{event_at}
 use Rattle.never_cut.specs.Steps.{Background}
+use Rattle.never_cut.specs.Within.{Lasts}
 use Rattle.never_cut.specs.Actors.{IsFinishing}
 use Rattle.reboot.specs.Boot.{boot_wants}
 use Rattle.reboot.specs.Knows.{BootKnows}
@@ -183,7 +184,7 @@ task_on s words m r (phase.StoreAck source count) is g known f h = f
 task_on s words m r phase.StoreEmpty is g known f h = (known, slot_on s r.pick.thread.0 r.pick.position g known)
 task_on s words m r phase.Over is g known f h = tt
 
-pub kernel_on : (s : Setup) (words : Memory) (m : Model) (kernel : Kernel) → IsSetup s → Background s.program s.readings words m → m.commits + 1 < 2 ^ 32 → KernelHolds s.program words m kernel →
+pub kernel_on : (s : Setup) (words : Memory) (m : Model) (kernel : Kernel) → IsSetup s → Background s.program s.readings words m → Lasts 0 m → KernelHolds s.program words m kernel →
     IsOnBoard s.program (place_of (wants s.program kernel))
 kernel_on s words m (kernels.Boot machine) g b room h = boot_on s words m machine.thread.0 machine.stamp machine.at g b h.0.known h.0.knows
 kernel_on s words m (kernels.Scan stamp machine) g b room h =

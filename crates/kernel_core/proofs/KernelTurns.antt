@@ -13,6 +13,7 @@ use Rattle.never_cut.specs.declared.model.Model.{Model}
 use Rattle.never_cut.specs.Journal.{moved, MayNote}
 use Rattle.never_cut.specs.Sound.{IsSound}
 use Rattle.never_cut.specs.Steps.{Background, IsKept}
+use Rattle.never_cut.specs.Within.{Lasts}
 use Rattle.never_cut.proofs.SoundStates.{sound_step}
 use Rattle.reboot.specs.Boot.{boot_stamp, boot_wants, boot_takes, boot_point}
 use Rattle.reboot.specs.Knows.{BootHolds}
@@ -120,7 +121,7 @@ background_after : (s : Setup) (words : Memory) (m : Model) (access : Rattle.fra
 background_after s words m access o g b k =
     record { accepted = b.accepted; private = k.private; shared = k.shared; sound = noted_sound s m o g b.sound k.legal }
 
-pub kernel_steps : (s : Setup) (words : Memory) (m : Model) (rows : ℕ → Row) (kernel : Kernel) → IsSetup s → Background s.program s.readings words m → m.commits + 1 < 2 ^ 32 →
+pub kernel_steps : (s : Setup) (words : Memory) (m : Model) (rows : ℕ → Row) (kernel : Kernel) → IsSetup s → Background s.program s.readings words m → Lasts 0 m →
     KernelHolds s.program words m kernel → KernelStep s words m rows kernel
 kernel_steps s words m rows (Boot boot) g b room h =
     let keeps = boot_keeps s.program s.readings words m boot b h.0 in

@@ -4,11 +4,12 @@ use Rattle.ink_base.specs.declared.actor.Actor.{Actor}
 use Rattle.ink_base.specs.declared.actor.Actor.TheVariants as actors
 use Rattle.push_core.specs.Table.{is_left}
 use Rattle.never_cut.specs.Entries.{readings_of}
+use Rattle.never_cut.proofs.Lasting.{lasts_less}
 use Rattle.kernel_core.specs.Board.{Setup, Board, Move, Cut, Turn, turn, cut, source_made, row_of, moved_by}
 use Rattle.kernel_core.specs.Holds.{IsSetup, state, Holds}
 use Rattle.kernel_core.specs.Moves.{IsActor, AreMoves, ticks, turns, IsInRange}
 use Rattle.kernel_core.proofs.Turns.{Goes, kernel_goes, source_goes}
-use Rattle.kernel_core.proofs.Cuts.{clock_goes, cut_goes, cut_commits}
+use Rattle.kernel_core.proofs.Cuts.{clock_goes, cut_goes, cut_lasts}
 
 pub turn_begun : (s : Setup) (b : Board) (a : Actor) → (turn s b a).begun ≡ b.begun
 turn_begun s b actors.Kernel = refl
@@ -21,7 +22,7 @@ turn_begun s b actors.Clock = refl
 
 pub turn_goes : (s : Setup) (count : ℕ) (b : Board) (a : Actor) (ticks turns : ℕ) → IsSetup s → Holds s count b → 0 < b.begun → IsActor s a → IsInRange (state s b) (1 + ticks) (1 + turns) →
     Goes s count b (turn s b a) 1
-turn_goes s count b actors.Kernel ticks turns g h some is range = kernel_goes s count b g h some (let c = range.commits in omega arith)
+turn_goes s count b actors.Kernel ticks turns g h some is range = kernel_goes s count b g h some (lasts_less (1 + turns) 0 (state s b) (omega arith) range.counts)
 turn_goes s count b (actors.Source i) ticks turns g h some is range = source_goes s count b i.0 g h some is
 turn_goes s count b actors.Clock ticks turns g h some is range = clock_goes s count b g h some (let c = range.clock in omega arith)
 
@@ -29,14 +30,14 @@ turn_goes s count b actors.Clock ticks turns g h some is range = clock_goes s co
 pub after_turn : (s : Setup) (count : ℕ) (b next : Board) (ticks turns : ℕ) → Goes s count b next 1 → IsInRange (state s b) (1 + ticks) (1 + turns) → IsInRange (state s next) ticks turns
 after_turn s count b next ticks turns go range = record {
   clock = let a = go.clock in let c = range.clock in omega arith;
-  commits = let a = go.commits in let c = range.commits in omega arith;
+  counts = go.counts turns (lasts_less (1 + turns) (turns + 1) (state s b) (omega arith) range.counts);
 }
 
 pub after_cut : (s : Setup) (count : ℕ) (b : Board) (off ticks turns : ℕ) → Goes s count b (cut s b off) off → Holds s count b → b.begun < count → IsInRange (state s b) (off + ticks) turns →
     IsInRange (state s (cut s b off)) ticks turns
 after_cut s count b off ticks turns go h left range = record {
   clock = let a = go.clock in let c = range.clock in omega arith;
-  commits = let same = cut_commits s count b off h left in let c = range.commits in omega (arith, same);
+  counts = cut_lasts s count b off turns h left range.counts;
 }
 
 pub moves_hold : (s : Setup) (count : ℕ) (b : Board) (moves : List Move) → IsSetup s → Holds s count b → AreMoves s count b.begun moves → IsInRange (state s b) (ticks moves) (turns moves) →
@@ -44,7 +45,7 @@ pub moves_hold : (s : Setup) (count : ℕ) (b : Board) (moves : List Move) → I
 moves_hold s count b [] g h are range = h
 moves_hold s count b (Cut off ∷ moves) g h are range =
     let go = cut_goes s count b off g h are.0 (let c = range.clock in omega arith) in
-    moves_hold s count (cut s b off) moves g go.holds are.1 (after_cut s count b off (ticks moves) (turns moves) go h are.0 (record { clock = range.clock; commits = let c = range.commits in omega arith }))
+    moves_hold s count (cut s b off) moves g go.holds are.1 (after_cut s count b off (ticks moves) (turns moves) go h are.0 (record { clock = range.clock; counts = lasts_less (turns (Cut off ∷ moves)) (turns moves) (state s b) (omega arith) range.counts }))
 moves_hold s count b (Turn actor ∷ moves) g h are range =
     let go = turn_goes s count b actor (ticks moves) (turns moves) g h are.0 are.1 range in
     moves_hold s count (turn s b actor) moves g go.holds

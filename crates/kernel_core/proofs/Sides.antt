@@ -100,6 +100,6 @@ pub shared_of : (s : Setup) (words : Memory) (m : Model) (rows : ℕ → Row) �
 shared_of s words m rows g sound h clock = record {
   queues = λ t lt. subst (λ n. StandsQueue n (slots_of words t) (words (Tail t)) (thread_of m t)) (places_same s t)
       (stands_queue s.program t (places_of (sides s) t) (slots_of words t) (words (Tail t)) (thread_of m t) (sound.threads t lt).queued (h.queues t));
-  small = λ t lt. let b = published_bound s.program s.readings m t g.accepted g.short sound lt in omega arith;
+  small = λ t lt. let b = published_bound s.program s.readings m t sound lt in omega arith;
   clock = clock;
 }

@@ -25,11 +25,12 @@ use Rattle.kernel_core.specs.Record.{ChargeRecord, not_begun}
 use Rattle.kernel_core.specs.Recorded.{Recorded}
 use Rattle.kernel_core.specs.Board.{Board, sides, first_board}
 use Rattle.kernel_core.specs.Holds.{IsSetup, Holds}
-use Rattle.kernel_core.specs.Core.{IsCore, AreRecords, CanCount, setup_of, charge_in, row_in, none_recorded, no_pusher}
+use Rattle.kernel_core.specs.Core.{IsCore, AreRecords, CanCount, setup_of, charge_in, row_in, none_recorded, no_pusher, turns_from}
 use Rattle.kernel_core.specs.Starts.{first_pusher, AreFirstPushers, IsFirstRecord, AreFirstRecords}
 use Rattle.kernel_core.proofs.CoreJobs.{turns_few}
 use Rattle.kernel_core.proofs.CoreCuts.{nothing_counted}
-use Rattle.kernel_core.proofs.Firsts.{first_holds}
+use Rattle.never_cut.proofs.Lasting.{open_lasts}
+use Rattle.kernel_core.proofs.Firsts.{first_holds, first_stands}
 
 -- a list of which each element has the same image
 map_same : {X Y : Type 0} (f : X → Y) (y : Y) (xs : List X) (n : ℕ) (none : X) → length xs ≡ n → ((k : ℕ) → k < n → f (get_or xs k none) ≡ y) → map f xs ≡ replicate n y
@@ -136,8 +137,8 @@ module _ (job : JobParts) (words : List ℕ) (pushers : List Pusher) (records : 
     layout_is = layout;
     rows = refl;
     machines = λ i lt. record { port = ap (λ (p : Pusher). p.port) (ps.each i lt); right = right_port job g i lt };
-    holds = subst (λ b. Holds (setup_of job) (length job.charges) b) (sym first_fields) (first_holds (setup_of job) words (length job.charges) g image);
-    range = let turns = turns_few job 0 is in let few = is.charges.count in record { clock = omega arith; commits = omega arith };
+    holds = subst (λ b. Holds (setup_of job) (length job.charges) b) (sym first_fields) (first_holds (setup_of job) words (length job.charges) g (first_stands (setup_of job) words g refl image));
+    range = let turns = turns_few job 0 is in let few = is.charges.count in record { clock = omega arith; counts = open_lasts job.program (0 + turns_from job 0) (omega arith); turns = omega arith };
     charges = refl;
     records_are = first_records_are;
   }

@@ -24,15 +24,17 @@ use Rattle.source_laws.proofs.Steps.{source_step, kept_step}
 use Rattle.source_laws.proofs.Ports.{access_of-port}
 use Rattle.never_cut.specs.declared.model.Model.{Model}
 use Rattle.never_cut.specs.declared.scan_model.ScanModel.{ScanModel}
-use Rattle.never_cut.specs.State.{thread_of, open_model}
+use Rattle.never_cut.specs.State.{thread_of}
 use Rattle.never_cut.specs.Pending.{pending}
 use Rattle.never_cut.specs.Commit.{committed, commit, expired, ended, end_at, consumed, is_expired}
 use Rattle.never_cut.specs.Entries.{readings_of}
 use Rattle.never_cut.specs.Journal.{noted, moved, MayNote, IsLegal, after}
 use Rattle.never_cut.specs.Stands.{StandsPrivate}
 use Rattle.never_cut.specs.Steps.{Background}
-use Rattle.never_cut.proofs.Journals.{after_from-noted, IsLegalFrom-noted}
-use Rattle.never_cut.proofs.SoundStates.{sound_after, open_sound}
+use Rattle.never_cut.proofs.Journals.{after-noted, IsLegal-noted}
+use Rattle.never_cut.specs.Within.{Lasts}
+use Rattle.never_cut.proofs.Lasting.{lasts_step, lasts_less}
+use Rattle.never_cut.proofs.SoundStates.{sound_after}
 use Rattle.never_cut.proofs.Follows.{follow_private}
 use Rattle.kernel_core.specs.Kernel.{wants, takes, point_found}
 use Rattle.kernel_core.specs.Record.{with_kernel, with_source}
@@ -46,43 +48,48 @@ use Rattle.kernel_core.proofs.KernelPlaces.{kernel_on}
 use Rattle.kernel_core.proofs.SourcePlaces.{source_on}
 use Rattle.kernel_core.proofs.Others.{kernel_drifts, private_beside, source_beside, point_adds, point_legal, point_clock, point_follows}
 
--- the next board holds too; clock and commits have grown by at most so much
+-- the next board holds too; the clock has grown by at most so much, and the counts have used the room of one entry at most
 pub record Goes (s : Setup) (count : ℕ) (b next : Board) (cost : ℕ) : Type 0 where
   pub holds : Holds s count next
   pub clock : (state s next).clock ≤ (state s b).clock + cost
-  pub commits : (state s next).commits ≤ (state s b).commits + cost
+  pub counts : (left : ℕ) → Lasts (left + 1) (state s b) → Lasts left (state s next)
 
 -- what is known beside the registers, on a board that holds
 pub background_of : (s : Setup) (count : ℕ) (b : Board) → IsSetup s → Holds s count b → Background s.program s.readings (memory s b) (state s b)
 background_of s count b g h =
-    let sound = sound_after s.program s.readings (open_model s.program) (journal b) g.accepted g.short (open_sound s.program s.readings g.accepted) h.legal in
+    let sound = sound_after s.program s.readings s.first (journal b) g.accepted g.short g.start.sound h.legal in
     record { accepted = g.accepted; private = h.private; shared = shared_of s (memory s b) (state s b) (row_of b) g sound h.kept h.clock; sound = sound }
+
+-- an entry or none uses the room of one at most
+noted_lasts : (s : Setup) (m : Model) (o : Option Entry) (left : ℕ) → MayNote s.program s.readings m o → Lasts (left + 1) m → Lasts left (moved s.program s.readings m o)
+noted_lasts s m None left may h = lasts_less (left + 1) left m (omega arith) h
+noted_lasts s m (Some e) left may h = lasts_step s.program s.readings left m e h may
 
 -- a board whose journal has at most one entry more
 pub goes_on : (s : Setup) (count : ℕ) (b next : Board) (o : Option Entry) (cost : ℕ) → Holds s count b → HasSize s count next → journal next ≡ noted (journal b) o → MayNote s.program s.readings (state s b) o →
     StandsPrivate (memory s next) s.program (moved s.program s.readings (state s b) o) → memory s next Clock ≡ (moved s.program s.readings (state s b) o).clock →
     Kept (sides s) (seen (memory s next) (moved s.program s.readings (state s b) o) (row_of next)) →
     KernelHolds s.program (memory s next) (moved s.program s.readings (state s b) o) next.kernel →
-    (moved s.program s.readings (state s b) o).clock ≤ (state s b).clock + cost → (moved s.program s.readings (state s b) o).commits ≤ (state s b).commits + cost → Goes s count b next cost
-goes_on s count b next o cost h size journal_is legal private clock kept registers later more =
+    (moved s.program s.readings (state s b) o).clock ≤ (state s b).clock + cost → Goes s count b next cost
+goes_on s count b next o cost h size journal_is legal private clock kept registers later =
     let m : state s next ≡ moved s.program s.readings (state s b) o =
-    ap (λ l. after s.program s.readings l) journal_is ∙ after_from-noted s.program s.readings (open_model s.program) (journal b) o in
+    ap (λ l. after s.program s.readings s.first l) journal_is ∙ after-noted s.program s.readings s.first (journal b) o in
     record {
       holds = record {
         size = size;
-        legal = subst (λ l. IsLegal s.program s.readings l) (sym journal_is) (IsLegalFrom-noted s.program s.readings (open_model s.program) (journal b) o h.legal legal);
+        legal = subst (λ l. IsLegal s.program s.readings s.first l) (sym journal_is) (IsLegal-noted s.program s.readings s.first (journal b) o h.legal legal);
         private = subst (λ (z : Model). StandsPrivate (memory s next) s.program z) (sym m) private;
         clock = subst (λ (z : Model). memory s next Clock ≡ z.clock) (sym m) clock;
         kept = subst (λ (z : Model). Kept (sides s) (seen (memory s next) z (row_of next))) (sym m) kept;
         registers = subst (λ (z : Model). KernelHolds s.program (memory s next) z next.kernel) (sym m) registers;
       };
       clock = subst (λ (z : Model). z.clock ≤ (state s b).clock + cost) (sym m) later;
-      commits = subst (λ (z : Model). z.commits ≤ (state s b).commits + cost) (sym m) more;
+      counts = λ left lasts. subst (λ (z : Model). Lasts left z) (sym m) (noted_lasts s (state s b) o left legal lasts);
     }
 
--- a commit leaves the clock, and counts one at most
+-- a commit leaves the clock
 abbrev Ranges : Model → Model → Type 0
-Ranges m next = (next.clock ≡ m.clock) × (next.commits ≤ m.commits + 1)
+Ranges m next = next.clock ≡ m.clock
 
 commit_ranges : (s : Setup) (m : Model) (t : ℕ) → Ranges m (commit s.program t m)
 commit_ranges s m t = by_scan m.scan
@@ -97,19 +104,19 @@ commit_ranges s m t = by_scan m.scan
     either false e time = running_clock (Rattle.never_cut.specs.State.is_running (thread_of m t)) e
 
     by_pending : (scan : ScanModel) (q : Option Event) → Ranges m (elim q [ None ↦ m | Some e ↦ committed s.program t e scan.time m ])
-    by_pending scan None = (refl, omega arith)
-    by_pending scan (Some e) = (either (is_expired s.program m t scan.time) e scan.time, omega arith)
+    by_pending scan None = refl
+    by_pending scan (Some e) = either (is_expired s.program m t scan.time) e scan.time
 
     by_scan : (o : Option ScanModel) → Ranges m (elim o [ None ↦ m | Some scan ↦ elim (pending s.program m t) [ None ↦ m | Some e ↦ committed s.program t e scan.time m ] ])
-    by_scan None = (refl, omega arith)
+    by_scan None = refl
     by_scan (Some scan) = by_pending scan (pending s.program m t)
 
 point_ranges : (s : Setup) (m : Model) (p : KernelPoint) → Ranges m (moved s.program s.readings m (entry_of_point p))
-point_ranges s m points.Nothing = (refl, omega arith)
-point_ranges s m points.Scan = (refl, omega arith)
-point_ranges s m (points.Look t) = (refl, omega arith)
+point_ranges s m points.Nothing = refl
+point_ranges s m points.Scan = refl
+point_ranges s m (points.Look t) = refl
 point_ranges s m (points.Commit t) = commit_ranges s m t.0
-point_ranges s m (points.Release t) = (refl, omega arith)
+point_ranges s m (points.Release t) = refl
 
 -- the kernel's turn where its access finds this word
 abbrev turned : Setup → Board → ℕ → Board
@@ -122,7 +129,7 @@ turned s b word =
       begun = b.begun;
     }
 
-pub kernel_goes : (s : Setup) (count : ℕ) (b : Board) → IsSetup s → Holds s count b → 0 < b.begun → (state s b).commits + 1 < 2 ^ 32 → Goes s count b (kernel_turn s b) 1
+pub kernel_goes : (s : Setup) (count : ℕ) (b : Board) → IsSetup s → Holds s count b → 0 < b.begun → Lasts 0 (state s b) → Goes s count b (kernel_turn s b) 1
 kernel_goes s count b g h some room =
     let m : Model = state s b in
     let bg = background_of s count b g h in
@@ -153,7 +160,7 @@ kernel_goes s count b g h some room =
     (subst (λ (n : Memory). Kept (sides s) (seen n next (row_of b))) (sym words)
     (kept_step (sides s) (seen (memory s b) (state s b) (row_of b)) (seen (perform (memory s b) (wants s.program b.kernel)) next (row_of b)) (within s g) h.kept step.step))
     (subst (λ (n : Memory). KernelHolds s.program n next (takes s.program b.kernel word)) (sym words) step.holds)
-    (omega (arith, range.0)) range.1)
+    (omega (arith, range)))
 
 -- the source's turn where its access finds this word
 abbrev source_turned : Setup → Board → ℕ → Access → ℕ → Board
@@ -218,11 +225,11 @@ source_made_goes s count b i g h some lt left =
     (subst (λ (n : Memory). Kept (sides s) (seen n next (row_of board))) (sym words) kept.1)
     (subst (λ (n : Memory). KernelHolds s.program n next b.kernel) (sym words)
     (kernel_drifts s.program (memory s b) (perform (memory s b) (access (sides s) i (row_of b i))) (state s b) next b.kernel same follows h.registers))
-    (omega (arith, point_clock s (state s b) i known fed p)) (omega (arith, follows.commits)))
+    (omega (arith, point_clock s (state s b) i known fed p)))
 
 pub source_goes : (s : Setup) (count : ℕ) (b : Board) (i : ℕ) → IsSetup s → Holds s count b → 0 < b.begun → i < length s.program.sources → Goes s count b (source_turn s b i) 1
 source_goes s count b i g h some lt = by_left (is_left (length (readings_of s.readings i)) (row_of b i)) refl
   where
     by_left : (t : Bool) → is_left (length (readings_of s.readings i)) (row_of b i) ≡ t → Goes s count b (cond t (source_made s b i) b) 1
     by_left true left = source_made_goes s count b i g h some lt left
-    by_left false none = record { holds = h; clock = omega arith; commits = omega arith }
+    by_left false none = record { holds = h; clock = omega arith; counts = λ left lasts. lasts_less (left + 1) left (state s b) (omega arith) lasts }

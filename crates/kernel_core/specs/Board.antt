@@ -20,6 +20,7 @@ use Rattle.push_core.specs.declared.point.Point.TheVariants as points
 use Rattle.push_core.specs.Table.{first_row, access_of, take_of, point_of, is_left}
 use Rattle.source_laws.specs.Model as sources
 use Rattle.source_laws.specs.Rows.{port_of}
+use Rattle.never_cut.specs.declared.model.Model.{Model}
 use Rattle.never_cut.specs.Entries.{Readings, readings_of}
 use Rattle.kernel_core.specs.declared.kernel.Kernel.{Kernel}
 use Rattle.kernel_core.specs.Kernel.{first_kernel, wants, takes, point_found}
@@ -29,6 +30,8 @@ use Rattle.kernel_core.specs.Record.{ChargeRecord, not_begun, begun, with_kernel
 pub record Setup : Type 0 where
   pub program : Program
   pub readings : Readings
+  -- the state at which the run begins
+  pub first : Model
 
 abbrev pub shape : Setup → Shape
 shape s = shape_of s.program

@@ -11,6 +11,8 @@ use Rattle.push_core.specs.declared.row.Row.{Row}
 use Rattle.push_core.specs.declared.pusher.Pusher.{Pusher}
 use Rattle.source_laws.specs.Rows.{port_of}
 use Rattle.never_cut.specs.declared.model.Model.{Model}
+use Rattle.never_cut.specs.State.{open_model}
+use Rattle.never_cut.specs.Within.{Lasts}
 use Rattle.kernel_core.specs.Record.{ChargeRecord, not_begun}
 use Rattle.kernel_core.specs.Recorded.{Recorded}
 use Rattle.kernel_core.specs.Board.{Setup, Board, sides}
@@ -18,7 +20,7 @@ use Rattle.kernel_core.specs.Holds.{IsSetup, Holds, state}
 
 -- the program and the readings of a job
 abbrev pub setup_of : JobParts → Setup
-setup_of job = record { program = job.program; readings = job.readings }
+setup_of job = record { program = job.program; readings = job.readings; first = open_model job.program }
 
 -- a job, its board, and how many turns the charge at hand has still room for
 pub record View : Type 0 where
@@ -56,10 +58,11 @@ turns_in job k = item_turns (charge_def job k).items
 abbrev pub turns_from : JobParts → ℕ → ℕ
 turns_from job k = charge_turns (drop k job.charges)
 
--- Clock and stamps fit their words to the job's end: each turn that is left adds at most one to either, and each cut below 2 ^ 32 to the clock.
+-- Clock and counts fit their words to the job's end: each turn that is left adds at most one entry or tick, and each cut below 2 ^ 32 to the clock.
 pub record StaysInRange (job : JobParts) (m : Model) (begun room : ℕ) : Type 0 where
   pub clock : m.clock + room + turns_from job begun + (length job.charges - begun) * 2 ^ 32 < 2 ^ 47
-  pub commits : m.commits + room + turns_from job begun + 1 < 2 ^ 32
+  pub counts : Lasts (room + turns_from job begun) m
+  pub turns : room + turns_from job begun < 2 ^ 32
 
 -- the counts of a charge can grow by so much
 pub record CanCount (room : ℕ) (c : ChargeRecord) : Type 0 where

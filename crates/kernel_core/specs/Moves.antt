@@ -2,10 +2,10 @@
 use Rattle.std.specs.Prelude.{ℕ, ◌+◌, ◌^◌, ◌<◌, List, [], ◌∷◌, length, take}
 use Rattle.ink_base.specs.declared.actor.Actor.{Actor}
 use Rattle.ink_base.specs.declared.actor.Actor.TheVariants as actors
-use Rattle.ink_layout.specs.Image.{IsFirstImage}
 use Rattle.never_cut.specs.declared.model.Model.{Model}
 use Rattle.kernel_core.specs.Board.{Setup, Move, Cut, Turn, moved_by, first_board}
-use Rattle.kernel_core.specs.Holds.{IsSetup, BoardStands}
+use Rattle.never_cut.specs.Within.{Lasts}
+use Rattle.kernel_core.specs.Holds.{IsSetup, StandsFirst, BoardStands}
 
 -- an actor of the board
 abbrev pub IsActor : Setup → Actor → Type 0
@@ -37,13 +37,13 @@ abbrev pub turns : List Move → ℕ
 turns [] = 0
 turns (m ∷ moves) = turns_of m + turns moves
 
--- clock and stamps fit their words to the end of what is left
+-- clock and counts fit their words to the end of what is left
 pub record IsInRange (m : Model) (ticks turns : ℕ) : Type 0 where
   pub clock : m.clock + ticks < 2 ^ 47
-  pub commits : m.commits + turns + 1 < 2 ^ 32
+  pub counts : Lasts turns m
 
 -- Whatever order of turns and cuts is listed: after each of them the journal so far is legal, and the words stand for the never-cut kernel after it.
 abbrev pub EveryPrefixStands : Type 0
 EveryPrefixStands =
-    (s : Setup) (words : List ℕ) (charges : ℕ) (moves : List Move) → IsSetup s → IsFirstImage s.program words → AreMoves s charges 0 moves → ticks moves < 2 ^ 47 → turns moves + 1 < 2 ^ 32 →
+    (s : Setup) (words : List ℕ) (charges : ℕ) (moves : List Move) → IsSetup s → StandsFirst s words → AreMoves s charges 0 moves → IsInRange s.first (ticks moves) (turns moves) →
     (n : ℕ) → BoardStands s (moved_by s (first_board s words charges) (take n moves))

@@ -7,7 +7,7 @@ pub mod Scans
 pub mod Follows
 pub mod Journals
 pub mod TaskRuns
-pub mod Accepted
+pub mod Unsettled
 pub mod Outputs
 pub mod Picks
 pub mod Beginnings
@@ -23,6 +23,8 @@ pub mod Ready
 pub mod SoundCommits
 pub mod PickedEnds
 pub mod SoundStates
+pub mod Lasting
+pub mod Starts
 pub mod Firsts
 pub mod Counted
 pub mod Rooms

@@ -9,7 +9,7 @@ use Rattle.fram_words.specs.Places.{Memory}
 use Rattle.prog_check.specs.Lookup.{pipe_def, timer_def, source_thread}
 use Rattle.ink_layout.specs.declared.pick.Pick.{Pick}
 use Rattle.never_cut.specs.declared.model.Model.{Model}
-use Rattle.never_cut.specs.State.{thread_of}
+use Rattle.never_cut.specs.State.{thread_of, pipe_of}
 use Rattle.never_cut.specs.Entries.{Readings}
 use Rattle.never_cut.specs.Stands.{event_at}
 use Rattle.never_cut.specs.Sound.{IsSound, IsSoundPipe, IsQueued, IsServed, IsChain}
@@ -25,19 +25,23 @@ IsServable program t e = elim e.origin [
   | origins.Timer timer deadline ↦ (timer.0 < length program.timers) × ((timer_def program timer.0).thread.0 ≡ t) × (deadline < 2 ^ 48) × (e.value ≡ deadline % 2 ^ 32)
 ]
 
+-- fewer than 2^32 items were taken from each pipe
+abbrev pub TakenFit : Model → Type 0
+TakenFit m = (q : ℕ) → (pipe_of m q).taken < 2 ^ 32
+
 -- an event that a chain serves
-served_servable : (program : Program) (readings : Readings) (m : Model) (t : ℕ) (o : Origin) (value : ℕ) → IsSound program readings m → t < length program.threads → m.commits < 2 ^ 32 →
+served_servable : (program : Program) (readings : Readings) (m : Model) (t : ℕ) (o : Origin) (value : ℕ) → IsSound program readings m → t < length program.threads → TakenFit m →
     IsServed program m t (record { origin = o; value = value }) → IsServable program t (record { origin = o; value = value })
 served_servable program readings m t (origins.Source source count) value h known few served =
     subst (IsQueued program t) served.1 ((h.threads t known).queued 0 served.0)
 served_servable program readings m t (origins.Pipe pipe item) value h known few served =
-    let taken = (h.pipes pipe.0 served.0).few in
+    let taken = few pipe.0 in
     let next = served.2 in
     (served.0, served.1, omega arith, served.3)
 served_servable program readings m t (origins.Timer timer deadline) value h known few served = served
 
 -- an event whose service can begin
-begun_servable : (program : Program) (readings : Readings) (m : Model) (t time : ℕ) (o : Origin) (value : ℕ) → IsSound program readings m → t < length program.threads → m.commits < 2 ^ 32 →
+begun_servable : (program : Program) (readings : Readings) (m : Model) (t time : ℕ) (o : Origin) (value : ℕ) → IsSound program readings m → t < length program.threads → TakenFit m →
     time < 2 ^ 47 → Begins program m t time (record { origin = o; value = value }) → IsServable program t (record { origin = o; value = value })
 begun_servable program readings m t time (origins.Source source count) value h known few early first =
     let some : 0 < length (thread_of m t).held = rw first.1 (omega arith) in
@@ -45,7 +49,7 @@ begun_servable program readings m t time (origins.Source source count) value h k
     subst (IsQueued program t) same ((h.threads t known).queued 0 some)
 begun_servable program readings m t time (origins.Pipe pipe item) value h known few early b =
     let p : IsSoundPipe program m pipe.0 = h.pipes pipe.0 b.0 in
-    let taken = p.few in
+    let taken = few pipe.0 in
     let number = b.3 in
     (b.0, b.1, omega arith, subst (λ n. n < 2 ^ 32) (sym b.4) (p.values 0))
 begun_servable program readings m t time (origins.Timer timer deadline) value h known few early b =
@@ -69,7 +73,7 @@ picked_serves program readings words m pick task sound h runs =
     (event, subst (IsServed program m pick.thread.0) same chain.served)
 
 -- the pick's event is one that its thread can serve, within its bits
-pub picked_event : (program : Program) (readings : Readings) (words : Memory) (m : Model) (pick : Pick) → IsSound program readings m → IsPicked program words m pick → m.commits < 2 ^ 32 →
+pub picked_event : (program : Program) (readings : Readings) (words : Memory) (m : Model) (pick : Pick) → IsSound program readings m → IsPicked program words m pick → TakenFit m →
     IsServable program pick.thread.0 pick.event
 picked_event program readings words m pick sound h few = by_running pick.running refl
   where

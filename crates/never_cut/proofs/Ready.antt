@@ -21,16 +21,16 @@ use Rattle.never_cut.specs.Stands.{event_at}
 use Rattle.never_cut.proofs.Picks.{pending-running}
 use Rattle.never_cut.proofs.Beginnings.{Begins, begins}
 use Rattle.never_cut.proofs.SoundParts.{IsServedBy, PipesSound, TimersSound, HasSoundParts, taken_in}
-use Rattle.never_cut.proofs.SoundPipes.{taken_count, pipes_later, taken_sound, taken_fewer}
+use Rattle.never_cut.proofs.SoundPipes.{taken_count, taken_sound, taken_fewer}
 use Rattle.never_cut.proofs.SoundTimers.{HasCome, moved_count, moved_sound}
 use Rattle.never_cut.proofs.SoundThreads.{SameTaken}
 
--- Thread t serves event e over these pipes and timers, which are sound for one commit more: no pipe has more items than before, and of those that other
+-- Thread t serves event e over these pipes and timers, which are sound: no pipe has more items than before, and of those that other
 -- threads read, none was taken.
 pub record IsReady (program : Program) (m : Model) (t : ℕ) (e : Event) (pipes : List PipeModel) (timers : List TimerModel) : Type 0 where
   pub served : IsServedBy program (taken_in pipes) t (thread_of m t).held e
   pub unfinished : (thread_of m t).finished ≡ false
-  pub pipes_sound : PipesSound program pipes (m.commits + 1)
+  pub pipes_sound : PipesSound program pipes
   pub timers_sound : TimersSound program timers
   pub pipes_count : length pipes ≡ length program.pipes
   pub timers_count : length timers ≡ length program.timers
@@ -52,7 +52,7 @@ ready_running program readings m t e scan h known is waits runs = by_running (th
         record {
           served = subst (IsServedBy program (taken_in m.pipes) t (thread_of m t).held) same c.served;
           unfinished = c.unfinished;
-          pipes_sound = pipes_later program m.pipes m.commits h.pipes;
+          pipes_sound = h.pipes;
           timers_sound = h.timers;
           pipes_count = h.pipes_count;
           timers_count = h.timers_count;
@@ -61,7 +61,7 @@ ready_running program readings m t e scan h known is waits runs = by_running (th
         }
 
 -- an event whose service begins is served over the pipes that it was taken from
-served_new : (program : Program) (m : Model) (t time : ℕ) (o : Origin) (value : ℕ) → length m.pipes ≡ length program.pipes → PipesSound program m.pipes m.commits → time < 2 ^ 47 →
+served_new : (program : Program) (m : Model) (t time : ℕ) (o : Origin) (value : ℕ) → length m.pipes ≡ length program.pipes → PipesSound program m.pipes → time < 2 ^ 47 →
     Begins program m t time (record { origin = o; value = value }) →
     IsServedBy program (taken_in (taken_from o m.pipes)) t (thread_of m t).held (record { origin = o; value = value })
 served_new program m t time (origins.Source source count) value same sound early b =
@@ -108,7 +108,7 @@ ready_idle program readings m t e scan h known is waits idle =
     record {
       served = served_new program m t scan.time e.origin e.value h.pipes_count h.pipes (omega arith) b;
       unfinished = clear;
-      pipes_sound = taken_sound program e.origin m.pipes m.commits h.pipes_count h.pipes;
+      pipes_sound = taken_sound program e.origin m.pipes h.pipes_count h.pipes;
       timers_sound = moved_sound program e.origin scan.time m.timers h.timers_count (has_come program m t scan.time e.origin e.value b) (omega arith) h.timers;
       pipes_count = taken_count e.origin m.pipes ∙ h.pipes_count;
       timers_count = moved_count e.origin m.timers ∙ h.timers_count;

@@ -1,32 +1,36 @@
 -- A thread's commits finish the events that were put into its queue, each once and in order.
-use Rattle.std.proofs.Common.{◌≡◌, ◌≢◌, inl, inr, ℕ, ◌<◌, true, false, List, [], ◌∷◌, ◌++◌, length, get_or, Option, Some, None, refl, sym, ap, ◌∙◌, subst, append_assoc}
+use Rattle.std.proofs.Common.{◌≡◌, ◌≢◌, inl, inr, ℕ, ◌<◌, Bool, true, false, List, [], ◌∷◌, ◌++◌, length, get_or, Option, Some, None, refl, sym, ap, ◌∙◌, subst, append_assoc, arith}
 use Rattle.std.specs.Option.{ForSome}
 use Rattle.std.proofs.lemmas.Bool.{cases_eq, eq-eqb, ne_eqb}
-use Rattle.std.proofs.lemmas.List.{append-nil, length-map, get_or-set_other}
+use Rattle.std.proofs.lemmas.List.{append-nil, get_or-set_other}
 use Rattle.std.proofs.lemmas.Grind.{get_or-set_at}
-use Rattle.std.proofs.Math.ListN.{get_or-map}
 use Rattle.ink_base.specs.declared.ids.ThreadId.{ThreadId}
 use Rattle.ink_base.specs.declared.event.Event.{Event}
+use Rattle.ink_base.specs.declared.event.Origin.{Origin}
+use Rattle.ink_base.specs.declared.event.Origin.TheVariants as origins
+use Rattle.ink_base.specs.declared.ids.TaskId.{TaskId}
 use Rattle.ink_base.specs.declared.entry.Entry.{Entry}
 use Rattle.ink_base.specs.declared.entry.Entry.TheVariants.{Push, Refuse, Skip, Tick, Scan, Look, Commit, Release}
 use Rattle.task_isa.specs.declared.program.Program.{Program}
-use Rattle.task_isa.specs.declared.program.ThreadDef.{ThreadDef}
-use Rattle.prog_check.specs.Lookup.{no_thread_def, thread_def, source_thread}
+use Rattle.prog_check.specs.Lookup.{source_thread}
 use Rattle.never_cut.specs.declared.model.Model.{Model}
 use Rattle.never_cut.specs.declared.scan_model.ScanModel.{ScanModel}
 use Rattle.never_cut.specs.declared.thread_model.ThreadModel.{ThreadModel}
-use Rattle.never_cut.specs.State.{thread_of, unfinished, no_thread, open_model, open_thread}
+use Rattle.never_cut.specs.State.{thread_of, unfinished, no_thread}
 use Rattle.never_cut.specs.Commit.{commit}
 use Rattle.never_cut.specs.Entries.{Readings, Legal, IsCalm, effect, looked, next_event, fed_by, pushed, released}
-use Rattle.never_cut.specs.Journal.{after_from, IsLegal, IsLegalFrom}
-use Rattle.never_cut.specs.Laws.{gathered_from, queued_by, finished_by, EachEventOnce}
+use Rattle.never_cut.specs.Journal.{after, IsLegal}
+use Rattle.never_cut.specs.Pending.{first_of}
+use Rattle.never_cut.specs.Sound.{IsSound, IsServed}
+use Rattle.never_cut.specs.Stands.{event_at}
+use Rattle.never_cut.specs.Laws.{gathered, queued_by, finished_by, EachEventOnce}
 use Rattle.never_cut.proofs.Threads.{kept-set}
 use Rattle.never_cut.proofs.Commits.{Serves, serves, thread_committed, committed-own, commit-other, commit-count}
 use Rattle.never_cut.proofs.ThreadStates.{effect-count}
 use Rattle.never_cut.proofs.Turns.{IsInTurn, IsFirstOf, Turns, pushed_turn, released_turn, unfinished-pushed, unfinished-released, committed_turns, pending_of}
 
 -- each thread serves its queue in turn, and while a scan is there nothing is finished
-record AreInTurn (program : Program) (m : Model) : Type 0 where
+pub record AreInTurn (program : Program) (m : Model) : Type 0 where
   pub count : length m.threads ≡ length program.threads
   pub threads : (t : ℕ) → t < length program.threads → IsInTurn (thread_of m t)
   pub calm : ForSome m.scan (λ scan. IsCalm program m)
@@ -137,16 +141,16 @@ balance_step program readings t m (Commit u) lt h legal =
 balance_step program readings t m (Release u) lt h legal =
     append-nil (unfinished (thread_of m t)) ∙ sym (kept-set unfinished m.threads u.0 t (released (thread_of m u.0)) (unfinished-released (thread_of m u.0) legal.1))
 
-balances : (program : Program) (readings : Readings) (t : ℕ) (m : Model) (entries : List Entry) → t < length program.threads → AreInTurn program m → IsLegalFrom program readings m entries →
-    unfinished (thread_of m t) ++ gathered_from (queued_by program readings t) program readings m entries
-    ≡ gathered_from (finished_by program t) program readings m entries ++ unfinished (thread_of (after_from program readings m entries) t)
+balances : (program : Program) (readings : Readings) (t : ℕ) (m : Model) (entries : List Entry) → t < length program.threads → AreInTurn program m → IsLegal program readings m entries →
+    unfinished (thread_of m t) ++ gathered (queued_by program readings t) program readings m entries
+    ≡ gathered (finished_by program t) program readings m entries ++ unfinished (thread_of (after program readings m entries) t)
 unfolding Balances
 balances program readings t m [] lt h legal = append-nil (unfinished (thread_of m t))
 balances program readings t m (e ∷ entries) lt h legal =
     let next : Model = effect program readings m e in
-    let queued : List Event = gathered_from (queued_by program readings t) program readings (effect program readings m e) entries in
-    let done : List Event = gathered_from (finished_by program t) program readings (effect program readings m e) entries in
-    let last : List Event = unfinished (thread_of (after_from program readings (effect program readings m e) entries) t) in
+    let queued : List Event = gathered (queued_by program readings t) program readings (effect program readings m e) entries in
+    let done : List Event = gathered (finished_by program t) program readings (effect program readings m e) entries in
+    let last : List Event = unfinished (thread_of (after program readings (effect program readings m e) entries) t) in
     let here : unfinished (thread_of m t) ++ queued_by program readings t e m ≡ finished_by program t e m ++ unfinished (thread_of next t) = balance_step program readings t m e lt h legal.0 in
     let rest : unfinished (thread_of next t) ++ queued ≡ done ++ last =
     balances program readings t (effect program readings m e) entries lt (turn_step program readings m e h legal.0) legal.1 in
@@ -156,23 +160,42 @@ balances program readings t m (e ∷ entries) lt h legal =
     ∙ (ap (λ xs. finished_by program t e m ++ xs) rest
     ∙ sym (append_assoc (finished_by program t e m) done last))))
 
-open_in_turn : (d : ThreadDef) → IsInTurn (open_thread d)
-open_in_turn d = record {
-  finished = λ is. absurd (let clash : false ≡ true = is in cc);
-  clear = λ _. refl;
-  chain = λ runs. absurd (let clash : false ≡ true = runs in cc);
-}
+first_event : (held : List Event) (e : Event) → 0 < length held → event_at held 0 ≡ e → first_of held ≡ Some e
+first_event [] e some is = absurd (omega arith)
+first_event (x ∷ held) e some is = ap Some is
 
-opens_in_turn : (program : Program) → AreInTurn program (open_model program)
-opens_in_turn program = record {
-  count = length-map program.threads open_thread;
-  threads = λ t lt. subst IsInTurn (sym (get_or-map open_thread program.threads t no_thread_def)) (open_in_turn (thread_def program t));
-  calm = λ scan is. absurd (let clash : None ≡ Some scan = is in cc);
-}
+served_turn : (program : Program) (m : Model) (t value : ℕ) (o : Origin) → IsServed program m t (record { origin = o; value = value }) →
+    IsFirstOf (thread_of m t).held (record { origin = o; value = value })
+served_turn program m t value (origins.Source source count) h is = first_event (thread_of m t).held _ h.0 h.1
+served_turn program m t value (origins.Pipe pipe item) h is = absurd (let clash : false ≡ true = is in cc)
+served_turn program m t value (origins.Timer timer deadline) h is = absurd (let clash : false ≡ true = is in cc)
 
--- from empty queues on
-pub each_event_once : (program : Program) (readings : Readings) (journal : List Entry) → IsLegal program readings journal → EachEventOnce program readings journal
-each_event_once program readings journal legal t lt =
-    let none : unfinished (thread_of (open_model program) t) ≡ [] = ap unfinished (get_or-map open_thread program.threads t no_thread_def) in
-    ap (λ xs. xs ++ gathered_from (queued_by program readings t) program readings (open_model program) journal) (sym none)
-    ∙ balances program readings t (open_model program) journal lt (opens_in_turn program) legal
+-- a sound state is one in which each thread serves its queue in turn
+pub sound_turns : (program : Program) (readings : Readings) (m : Model) → IsSound program readings m → AreInTurn program m
+sound_turns program readings m h = record {
+  count = h.shape.threads;
+  threads = λ t lt. let x = h.threads t lt in record {
+    finished = λ is. (x.finished is).0;
+    clear = λ runs. by_running t lt (thread_of m t).running refl runs;
+    chain = λ runs e is. by_chain t lt e is (thread_of m t).running refl runs;
+  };
+  calm = h.calm;
+}
+  where
+    by_running : (t : ℕ) → t < length program.threads → (running : Option TaskId) → (thread_of m t).running ≡ running →
+        ◌≡◌ {A = Bool} (elim running as (λ _. Bool) [ Some task ↦ true | None ↦ false ]) true → (thread_of m t).finished ≡ false
+    by_running t lt None is runs = absurd (let clash : false ≡ true = runs in cc)
+    by_running t lt (Some task) is runs = ((h.threads t lt).chain task is).unfinished
+
+    by_chain : (t : ℕ) → t < length program.threads → (e : Event) → (thread_of m t).event ≡ Some e → (running : Option TaskId) → (thread_of m t).running ≡ running →
+        ◌≡◌ {A = Bool} (elim running as (λ _. Bool) [ Some task ↦ true | None ↦ false ]) true → IsFirstOf (thread_of m t).held e
+    by_chain t lt e is None idle runs = absurd (let clash : false ≡ true = runs in cc)
+    by_chain t lt e is (Some task) on runs =
+        let c = (h.threads t lt).chain task on in
+        let both : Some c.event ≡ Some e = sym c.is ∙ is in
+        let same : c.event ≡ e = cc in
+        subst (IsFirstOf (thread_of m t).held) same (served_turn program m t c.event.value c.event.origin c.served)
+
+pub each_event_once : (program : Program) (readings : Readings) (first : Model) (journal : List Entry) → AreInTurn program first → IsLegal program readings first journal →
+    EachEventOnce program readings first journal
+each_event_once program readings first journal turns legal t lt = balances program readings t first journal lt turns legal

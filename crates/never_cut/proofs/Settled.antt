@@ -1,18 +1,17 @@
 -- Every legal journal settles the readings of each source in order.
-use Rattle.std.proofs.Common.{◌≡◌, ◌⊎◌, inl, inr, ℕ, zero, suc, ◌+◌, ◌<◌, ◌==◌, cond, Bool, List, [], ◌∷◌, ◌++◌, length, map, get_or, set, refl, sym, ap, ◌∙◌, subst, arith, length-set}
+use Rattle.std.proofs.Common.{◌≡◌, ◌⊎◌, inl, inr, ℕ, suc, ◌+◌, ◌-◌, ◌<◌, ◌==◌, cond, Bool, List, [], ◌∷◌, ◌++◌, length, get_or, set, refl, sym, ap, ◌∙◌, subst, arith, length-set}
 use Rattle.std.specs.List.{range_with_len}
 use Rattle.std.proofs.lemmas.Bool.{cases_eq, eq-eqb, ne_eqb}
-use Rattle.std.proofs.lemmas.List.{length-map, get_or-set_same, get_or-set_other}
-use Rattle.ink_base.specs.declared.ids.ThreadId.{ThreadId}
+use Rattle.std.proofs.lemmas.List.{get_or-set_same, get_or-set_other}
 use Rattle.ink_base.specs.declared.entry.Entry.{Entry}
 use Rattle.ink_base.specs.declared.entry.Entry.TheVariants.{Push, Refuse, Skip, Tick, Scan, Look, Commit, Release}
 use Rattle.task_isa.specs.declared.program.Program.{Program}
 use Rattle.never_cut.specs.declared.model.Model.{Model}
 use Rattle.never_cut.specs.declared.source_model.SourceModel.{SourceModel}
-use Rattle.never_cut.specs.State.{source_of, no_source, open_model, open_source}
+use Rattle.never_cut.specs.State.{source_of, no_source}
 use Rattle.never_cut.specs.Entries.{Readings, Legal, effect, with_accepted, with_refused, with_skipped}
-use Rattle.never_cut.specs.Journal.{after_from, IsLegal, IsLegalFrom}
-use Rattle.never_cut.specs.Laws.{settled_by, gathered_from, ReadingsInOrder}
+use Rattle.never_cut.specs.Journal.{after, IsLegal}
+use Rattle.never_cut.specs.Laws.{settled_by, gathered, ReadingsInOrder}
 use Rattle.never_cut.proofs.Commits.{commit-sources}
 
 -- an entry settles the next reading of source i, or none of it
@@ -63,8 +62,8 @@ settles program readings i m (Commit t) count legal =
 settles program readings i m (Release t) count legal = (inl (refl, refl), count)
 
 -- the settled readings are so many numbers from the first one on
-settled_are : (program : Program) (readings : Readings) (i : ℕ) (m : Model) (entries : List Entry) → HasSources program m → IsLegalFrom program readings m entries →
-    (n : ℕ) × ((source_of (after_from program readings m entries) i).next ≡ (source_of m i).next + n) × (gathered_from (settled_by i) program readings m entries ≡ range_with_len (source_of m i).next n)
+settled_are : (program : Program) (readings : Readings) (i : ℕ) (m : Model) (entries : List Entry) → HasSources program m → IsLegal program readings m entries →
+    (n : ℕ) × ((source_of (after program readings m entries) i).next ≡ (source_of m i).next + n) × (gathered (settled_by i) program readings m entries ≡ range_with_len (source_of m i).next n)
 unfolding Settles
 settled_are program readings i m [] count legal = (0, (let e : (source_of m i).next ≡ (source_of m i).next + 0 = omega arith in e), refl)
 settled_are program readings i m (e ∷ entries) count legal =
@@ -72,29 +71,26 @@ settled_are program readings i m (e ∷ entries) count legal =
     joined one.0 (settled_are program readings i (effect program readings m e) entries one.1 legal.1)
   where
     joined : Settles i e m (effect program readings m e) →
-        (n : ℕ) × ((source_of (after_from program readings (effect program readings m e) entries) i).next ≡ (source_of (effect program readings m e) i).next + n) × (gathered_from (settled_by i) program readings (effect program readings m e) entries ≡ range_with_len (source_of (effect program readings m e) i).next n) →
-        (n : ℕ) × ((source_of (after_from program readings (effect program readings m e) entries) i).next ≡ (source_of m i).next + n) × (settled_by i e m ++ gathered_from (settled_by i) program readings (effect program readings m e) entries ≡ range_with_len (source_of m i).next n)
+        (n : ℕ) × ((source_of (after program readings (effect program readings m e) entries) i).next ≡ (source_of (effect program readings m e) i).next + n) × (gathered (settled_by i) program readings (effect program readings m e) entries ≡ range_with_len (source_of (effect program readings m e) i).next n) →
+        (n : ℕ) × ((source_of (after program readings (effect program readings m e) entries) i).next ≡ (source_of m i).next + n) × (settled_by i e m ++ gathered (settled_by i) program readings (effect program readings m e) entries ≡ range_with_len (source_of m i).next n)
     joined (inl none) rest = (
       rest.0,
       omega (arith, none.1, rest.1),
-      ap (λ (xs : List ℕ). xs ++ gathered_from (settled_by i) program readings (effect program readings m e) entries) none.0 ∙ (rest.2 ∙ ap (λ (k : ℕ). range_with_len k rest.0) none.1),
+      ap (λ (xs : List ℕ). xs ++ gathered (settled_by i) program readings (effect program readings m e) entries) none.0 ∙ (rest.2 ∙ ap (λ (k : ℕ). range_with_len k rest.0) none.1),
     )
     joined (inr one) rest = (
       suc rest.0,
       omega (arith, one.1, rest.1),
-      ap (λ (xs : List ℕ). xs ++ gathered_from (settled_by i) program readings (effect program readings m e) entries) one.0
+      ap (λ (xs : List ℕ). xs ++ gathered (settled_by i) program readings (effect program readings m e) entries) one.0
           ∙ ap (λ (xs : List ℕ). (source_of m i).next ∷ xs) (rest.2 ∙ ap (λ (k : ℕ). range_with_len k rest.0) (let h : (source_of (effect program readings m e) i).next ≡ (source_of m i).next + 1 = omega (arith, one.1) in h)),
     )
 
-open_none : (sources : List ThreadId) (i : ℕ) → (get_or (map open_source sources) i no_source).next ≡ 0
-open_none [] i = refl
-open_none (s ∷ sources) zero = refl
-open_none (s ∷ sources) (suc i) = open_none sources i
-
--- from nothing settled on: all numbers below the next reading
-pub readings_in_order : (program : Program) (readings : Readings) (journal : List Entry) → IsLegal program readings journal → ReadingsInOrder program readings journal
+-- those from the first state's next reading up to the next one then
+pub readings_in_order : (program : Program) (readings : Readings) (first : Model) (journal : List Entry) → length first.sources ≡ length program.sources →
+    IsLegal program readings first journal → ReadingsInOrder program readings first journal
 unfolding HasSources
-readings_in_order program readings journal legal i lt =
-    let h = settled_are program readings i (open_model program) journal (length-map program.sources open_source) legal in
-    let none = open_none program.sources i in
-    h.2 ∙ (ap (λ (k : ℕ). range_with_len k h.0) none ∙ ap (range_with_len 0) (let n : h.0 ≡ (source_of (after_from program readings (open_model program) journal) i).next = omega (arith, h.1, none) in n))
+readings_in_order program readings first journal count legal i lt =
+    let h = settled_are program readings i first journal count legal in
+    let start : ℕ = (source_of first i).next in
+    let n : h.0 ≡ (source_of (after program readings first journal) i).next - (source_of first i).next = omega (arith, h.1) in
+    (omega (arith, h.1), h.2 ∙ ap (range_with_len start) n)

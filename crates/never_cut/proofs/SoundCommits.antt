@@ -23,7 +23,7 @@ use Rattle.never_cut.specs.State.{thread_of, is_running}
 use Rattle.never_cut.specs.Pending.{pending}
 use Rattle.never_cut.specs.Commit.{outputs_of, committed, ended, consumed, taken_from, moved_on, with_sends, with_timers, stamped, with_first, thread_after, end_at, start_at, task_at, is_overdue, expired, expired_after}
 use Rattle.never_cut.specs.Entries.{Readings, Legal, effect}
-use Rattle.never_cut.specs.Sound.{accepted_into}
+use Rattle.never_cut.specs.Sound.{unsettled_into}
 use Rattle.never_cut.proofs.Outputs.{of_thread, outputs-own, outputs-other, length-stamped}
 use Rattle.never_cut.proofs.TaskRuns.{IsFittingEnd, task_fits}
 use Rattle.never_cut.proofs.SoundParts.{IsSoundAt, IsServedBy, ThreadSound, PipesSound, TimersSound, HasSoundParts, taken_in}
@@ -31,8 +31,8 @@ use Rattle.never_cut.proofs.SoundSources.{sources_same}
 use Rattle.never_cut.proofs.SoundQueues.{thread_changes}
 use Rattle.never_cut.proofs.SoundPipes.{sent_count, rooms_at, sent_taken, sends_sound}
 use Rattle.never_cut.proofs.SoundTimers.{set_count, settings_sound}
-use Rattle.never_cut.proofs.SoundThreads.{SameTaken, other_at, first_at, first_keeps, after_at, expired_at}
-use Rattle.never_cut.proofs.Accepted.{accepted_same}
+use Rattle.never_cut.proofs.SoundThreads.{SameTaken, settled_at, other_at, first_at, first_keeps, after_at, expired_at}
+use Rattle.never_cut.proofs.Unsettled.{unsettled_least}
 use Rattle.never_cut.proofs.Ready.{IsReady, ready_running, ready_idle}
 
 -- the state after a commit of thread t, which made these of the thread, the pipes, the timers and the outputs
@@ -48,26 +48,27 @@ made m t x pipes timers outputs = record m {
 
 made_threads : (program : Program) (readings : Readings) (m : Model) (t : ℕ) (x : ThreadModel) (pipes : List PipeModel) (timers : List TimerModel) (outputs : List Output) →
     HasSoundParts program readings m → t < length program.threads →
-    IsSoundAt program (taken_in pipes) t x (accepted_into program m t (length program.sources)) (length (of_thread t outputs)) m.clock (m.commits + 1) →
+    IsSoundAt program (taken_in pipes) t x (unsettled_into program readings m t (length program.sources)) (length (of_thread t outputs)) m.clock →
     ((u : ℕ) → u ≢ t → length (of_thread u outputs) ≡ length (outputs_of m u)) → ((u : ℕ) → u ≢ t → SameTaken program u (taken_in m.pipes) (taken_in pipes)) →
-    (u : ℕ) → u < length program.threads → ThreadSound program (made m t x pipes timers outputs) u
+    (u : ℕ) → u < length program.threads → ThreadSound program readings (made m t x pipes timers outputs) u
 made_threads program readings m t x pipes timers outputs h known new outs taken u lt =
     let next : Model = made m t x pipes timers outputs in
     let changes = thread_changes program m next t x (rw h.threads_count known) refl in
-    let accepted = λ (v : ℕ). accepted_same program m next v (length program.sources) (λ j _ _. refl) in
     elim (cases_eq u t) [
-      | inl same ↦ subst (λ v. ThreadSound program next v) (sym same)
-          (subst (λ (z : ThreadModel × ℕ). IsSoundAt program (taken_in pipes) t z.0 z.1 (length (of_thread t outputs)) m.clock (m.commits + 1)) (sym (λ k. (changes.0 k, accepted t k))) new)
-      | inr apart ↦ subst (λ (z : ThreadModel × ℕ × ℕ). IsSoundAt program (taken_in pipes) u z.0 z.1 z.2 m.clock (m.commits + 1))
-          (sym (λ k. (changes.1 u apart k, accepted u k, outs u apart k)))
-          (other_at program (taken_in m.pipes) (taken_in pipes) u (thread_of m u) _ _ _ _ (taken u apart) (h.threads u lt))
+      | inl same ↦ subst (λ v. ThreadSound program readings next v) (sym same)
+          (subst (λ (z : ThreadModel). IsSoundAt program (taken_in pipes) t z (unsettled_into program readings next t (length program.sources)) (length (of_thread t outputs)) m.clock) (sym changes.0)
+          (settled_at program (taken_in pipes) t x _ _ _ _ (unsettled_least program readings m next t (length program.sources) (λ j. omega arith)) new))
+      | inr apart ↦ subst (λ (z : ThreadModel × ℕ). IsSoundAt program (taken_in pipes) u z.0 (unsettled_into program readings next u (length program.sources)) z.1 m.clock)
+          (sym (λ k. (changes.1 u apart k, outs u apart k)))
+          (settled_at program (taken_in pipes) u (thread_of m u) _ _ _ _ (unsettled_least program readings m next u (length program.sources) (λ j. omega arith))
+          (other_at program (taken_in m.pipes) (taken_in pipes) u (thread_of m u) _ _ _ (taken u apart) (h.threads u lt)))
     ]
 
 made_sound : (program : Program) (readings : Readings) (m : Model) (t : ℕ) (x : ThreadModel) (pipes : List PipeModel) (timers : List TimerModel) (outputs : List Output) →
     HasSoundParts program readings m → t < length program.threads →
-    IsSoundAt program (taken_in pipes) t x (accepted_into program m t (length program.sources)) (length (of_thread t outputs)) m.clock (m.commits + 1) →
+    IsSoundAt program (taken_in pipes) t x (unsettled_into program readings m t (length program.sources)) (length (of_thread t outputs)) m.clock →
     ((u : ℕ) → u ≢ t → length (of_thread u outputs) ≡ length (outputs_of m u)) → ((u : ℕ) → u ≢ t → SameTaken program u (taken_in m.pipes) (taken_in pipes)) →
-    length pipes ≡ length program.pipes → length timers ≡ length program.timers → PipesSound program pipes (m.commits + 1) → TimersSound program timers →
+    length pipes ≡ length program.pipes → length timers ≡ length program.timers → PipesSound program pipes → TimersSound program timers →
     HasSoundParts program readings (made m t x pipes timers outputs)
 made_sound program readings m t x pipes timers outputs h known new outs taken pipes_count timers_count pipes_sound timers_sound = record {
   threads_count = length-set m.threads t x ∙ h.threads_count;
@@ -103,17 +104,17 @@ ended_thread : (program : Program) (readings : Readings) (m : Model) (t : ℕ) (
     HasSoundParts program readings m → t < length program.threads → time ≤ m.clock → IsReady program m t e pipes timers →
     IsFittingEnd program t (thread_def program t).state (room_at program m t e time) end →
     IsSoundAt program (taken_in (with_sends end.sends pipes)) t (thread_after e end.outcome end.state (with_first time (thread_of m t)))
-    (accepted_into program m t (length program.sources)) (length (of_thread t (m.outputs ++ stamped (m.commits + 1) t end.outs))) m.clock (m.commits + 1)
+    (unsettled_into program readings m t (length program.sources)) (length (of_thread t (m.outputs ++ stamped (m.commits + 1) t end.outs))) m.clock
 ended_thread program readings m t e time end pipes timers h known le r fits =
     let x : ThreadModel = thread_of m t in
     let b : Bool = is_running (thread_of m t) in
-    let first = first_at program (taken_in m.pipes) t (thread_of m t) _ _ _ _ time (is_running (thread_of m t)) le (h.threads t known) in
+    let first = first_at program (taken_in m.pipes) t (thread_of m t) _ _ _ time (is_running (thread_of m t)) le (h.threads t known) in
     let room : length end.outs ≤ (thread_def program t).log - length (outputs_of m t) = fits.effects.outs in
     let old : length (outputs_of m t) ≤ (thread_def program t).log = (h.threads t known).outputs in
     let count = (outputs_after m t end.outs).0 in
     let held : (with_first time x).held ≡ x.held = first_keeps (λ (z : ThreadModel). z.held) x time b refl in
     let taken : taken_in (with_sends end.sends pipes) ≡ taken_in pipes = λ k q. sent_taken end.sends pipes q k in
-    after_at program (taken_in m.pipes) (taken_in (with_sends end.sends pipes)) t (with_first time x) e end.outcome end.state _ _ _ _ _ first
+    after_at program (taken_in m.pipes) (taken_in (with_sends end.sends pipes)) t (with_first time x) e end.outcome end.state _ _ _ _ first
     (subst (λ (z : (ℕ → ℕ) × List Event). IsServedBy program z.0 t z.1 e) (sym (λ k. (taken k, held k))) r.served)
     (first_keeps (λ (z : ThreadModel). z.finished) x time b refl ∙ r.unfinished) fits.effects.state fits.outcome (omega arith)
 
@@ -129,7 +130,7 @@ ended_sound program readings m t e time end pipes timers h known le r fits =
     (λ u apart. ap length ((outputs_after m t end.outs).1 u apart))
     (λ u apart q there reads. sent_taken end.sends pipes q ∙ r.others u apart q there reads)
     (sent_count end.sends pipes ∙ r.pipes_count) (set_count end.timers timers ∙ r.timers_count)
-    (sends_sound program t end.sends pipes (m.commits + 1) r.pipes_count fits.effects.sends (λ q there.
+    (sends_sound program t end.sends pipes r.pipes_count fits.effects.sends (λ q there.
     let sent = fits.effects.sent q in
     let room = rooms_at program m q there in
     let fewer = r.fewer q there in
@@ -174,7 +175,7 @@ committed_sound program readings m t e scan accepted h known is waits = by_runni
         HasSoundParts program readings (record (if late then expired t e m else ended t e scan.time (end_at program m t e scan.time) m) { commits = m.commits + 1; scan = None })
     by_overdue true r =
         made_sound program readings m t (expired_after e (thread_of m t)) m.pipes m.timers m.outputs h known
-        (expired_at program (taken_in m.pipes) t (thread_of m t) e _ _ _ _ (h.threads t known) r.served r.unfinished)
+        (expired_at program (taken_in m.pipes) t (thread_of m t) e _ _ _ (h.threads t known) r.served r.unfinished)
         (λ u apart. refl) (λ u apart q there reads. refl) h.pipes_count h.timers_count r.pipes_sound r.timers_sound
     by_overdue false r = ended_sound program readings m t e scan.time (end_at program m t e scan.time) m.pipes m.timers h known (h.scan scan is) r fits
 

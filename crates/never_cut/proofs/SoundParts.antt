@@ -6,6 +6,7 @@ use Rattle.ink_base.specs.declared.event.Event.{Event}
 use Rattle.ink_base.specs.declared.event.Origin.TheVariants as origins
 use Rattle.task_isa.specs.declared.program.Program.{Program}
 use Rattle.prog_check.specs.Lookup.{thread_def, pipe_def, timer_def, task_def}
+use Rattle.push_core.specs.Table.{greatest_tail}
 use Rattle.never_cut.specs.declared.model.Model.{Model}
 use Rattle.never_cut.specs.declared.thread_model.ThreadModel.{ThreadModel}
 use Rattle.never_cut.specs.declared.pipe_model.PipeModel.{PipeModel}
@@ -14,7 +15,7 @@ use Rattle.never_cut.specs.State.{thread_of, no_pipe, no_timer}
 use Rattle.never_cut.specs.Commit.{outputs_of}
 use Rattle.never_cut.specs.Entries.{Readings, IsCalm}
 use Rattle.never_cut.specs.Stands.{published, event_at}
-use Rattle.never_cut.specs.Sound.{IsSound, IsSoundThread, IsSoundSource, IsQueued, accepted_into}
+use Rattle.never_cut.specs.Sound.{IsSound, IsSoundThread, IsSoundSource, IsQueued, unsettled_into}
 
 -- how many items were taken from each pipe
 abbrev pub taken_in : List PipeModel → ℕ → ℕ
@@ -36,30 +37,28 @@ pub record IsChainAt (program : Program) (taken : ℕ → ℕ) (t : ℕ) (x : Th
   pub served : IsServedBy program taken t x.held event
   pub unfinished : x.finished ≡ false
 
--- a thread, with so many items taken from the pipes, so many accepted events and outputs, at this clock and number of commits
-pub record IsSoundAt (program : Program) (taken : ℕ → ℕ) (t : ℕ) (x : ThreadModel) (accepted outs clock commits : ℕ) : Type 0 where
-  pub published_is : published x ≡ accepted
+-- a thread, with so many items taken from the pipes, so many readings left to its sources, so many outputs, and at this clock
+pub record IsSoundAt (program : Program) (taken : ℕ → ℕ) (t : ℕ) (x : ThreadModel) (left outs clock : ℕ) : Type 0 where
+  pub positions : published x + left ≤ greatest_tail
   pub queued : (k : ℕ) → k < length x.held → IsQueued program t (event_at x.held k)
   pub finished : x.finished ≡ true → (0 < length x.held) × (x.running ≡ None)
   pub idle : x.running ≡ None → x.event ≡ None
   pub chain : ForSome x.running (λ task. IsChainAt program taken t x task.0)
   pub outputs : outs ≤ (thread_def program t).log
   pub first : x.first ≤ clock
-  pub totals : x.served + x.trapped + x.expired ≤ commits
   pub size : length x.state ≡ (thread_def program t).state
 
-abbrev pub ThreadSound : Program → Model → ℕ → Type 0
-ThreadSound program m t =
-    IsSoundAt program (taken_in m.pipes) t (thread_of m t) (accepted_into program m t (length program.sources)) (length (outputs_of m t)) m.clock m.commits
+abbrev pub ThreadSound : Program → Readings → Model → ℕ → Type 0
+ThreadSound program readings m t =
+    IsSoundAt program (taken_in m.pipes) t (thread_of m t) (unsettled_into program readings m t (length program.sources)) (length (outputs_of m t)) m.clock
 
--- a pipe of so many places, after so many commits
-pub record IsSoundPipeAt (places : ℕ) (p : PipeModel) (commits : ℕ) : Type 0 where
+-- a pipe of so many places
+pub record IsSoundPipeAt (places : ℕ) (p : PipeModel) : Type 0 where
   pub room : length p.items ≤ places
   pub values : (k : ℕ) → slice_index p.items k < 2 ^ 32
-  pub few : p.taken ≤ commits
 
-abbrev pub PipesSound : Program → List PipeModel → ℕ → Type 0
-PipesSound program pipes commits = (q : ℕ) → q < length program.pipes → IsSoundPipeAt (pipe_def program q).places (get_or pipes q no_pipe) commits
+abbrev pub PipesSound : Program → List PipeModel → Type 0
+PipesSound program pipes = (q : ℕ) → q < length program.pipes → IsSoundPipeAt (pipe_def program q).places (get_or pipes q no_pipe)
 
 pub record IsSoundTimerAt (x : TimerModel) : Type 0 where
   pub due : ForSome x.due (λ due. due < 2 ^ 48)
@@ -73,8 +72,8 @@ pub record HasSoundParts (program : Program) (readings : Readings) (m : Model) :
   pub pipes_count : length m.pipes ≡ length program.pipes
   pub timers_count : length m.timers ≡ length program.timers
   pub sources_count : length m.sources ≡ length program.sources
-  pub threads : (t : ℕ) → t < length program.threads → ThreadSound program m t
-  pub pipes : PipesSound program m.pipes m.commits
+  pub threads : (t : ℕ) → t < length program.threads → ThreadSound program readings m t
+  pub pipes : PipesSound program m.pipes
   pub timers : TimersSound program m.timers
   pub sources : (i : ℕ) → i < length program.sources → IsSoundSource readings m i
   pub clock : m.clock < 2 ^ 47
@@ -82,10 +81,11 @@ pub record HasSoundParts (program : Program) (readings : Readings) (m : Model) :
   pub begun : ForSome m.scan (λ scan. (t : ℕ) → (thread_of m t).first ≤ scan.time)
   pub calm : ForSome m.scan (λ scan. IsCalm program m)
 
-thread_parts : (program : Program) (m : Model) (t : ℕ) → length (thread_of m t).state ≡ (thread_def program t).state → IsSoundThread program m t → ThreadSound program m t
-thread_parts program m t size x =
+thread_parts : (program : Program) (readings : Readings) (m : Model) (t : ℕ) → length (thread_of m t).state ≡ (thread_def program t).state → IsSoundThread program readings m t →
+    ThreadSound program readings m t
+thread_parts program readings m t size x =
     record {
-      published_is = x.published_is;
+      positions = x.positions;
       queued = x.queued;
       finished = x.finished;
       idle = x.idle;
@@ -94,7 +94,6 @@ thread_parts program m t size x =
           record { known = c.known; own = c.own; event = c.event; is = c.is; served = c.served; unfinished = c.unfinished };
       outputs = x.outputs;
       first = x.first;
-      totals = x.totals;
       size = size;
     }
 
@@ -105,8 +104,8 @@ parts_of program readings m h =
       pipes_count = h.shape.pipes;
       timers_count = h.shape.timers;
       sources_count = h.shape.sources;
-      threads = λ t lt. thread_parts program m t (h.shape.states t lt) (h.threads t lt);
-      pipes = λ q lt. let p = h.pipes q lt in record { room = p.room; values = p.values; few = p.few };
+      threads = λ t lt. thread_parts program readings m t (h.shape.states t lt) (h.threads t lt);
+      pipes = λ q lt. let p = h.pipes q lt in record { room = p.room; values = p.values };
       timers = λ j lt. let x = h.timers j lt in record { due = x.due; period = x.period };
       sources = h.sources;
       clock = h.clock;
@@ -115,10 +114,10 @@ parts_of program readings m h =
       calm = h.calm;
     }
 
-thread_back : (program : Program) (m : Model) (t : ℕ) → ThreadSound program m t → IsSoundThread program m t
-thread_back program m t x =
+thread_back : (program : Program) (readings : Readings) (m : Model) (t : ℕ) → ThreadSound program readings m t → IsSoundThread program readings m t
+thread_back program readings m t x =
     record {
-      published_is = x.published_is;
+      positions = x.positions;
       queued = x.queued;
       finished = x.finished;
       idle = x.idle;
@@ -127,15 +126,14 @@ thread_back program m t x =
           record { known = c.known; own = c.own; event = c.event; is = c.is; served = c.served; unfinished = c.unfinished };
       outputs = x.outputs;
       first = x.first;
-      totals = x.totals;
     }
 
 pub sound_of : (program : Program) (readings : Readings) (m : Model) → HasSoundParts program readings m → IsSound program readings m
 sound_of program readings m h =
     record {
       shape = record { threads = h.threads_count; pipes = h.pipes_count; timers = h.timers_count; sources = h.sources_count; states = λ t lt. (h.threads t lt).size };
-      threads = λ t lt. thread_back program m t (h.threads t lt);
-      pipes = λ q lt. let p = h.pipes q lt in record { room = p.room; values = p.values; few = p.few };
+      threads = λ t lt. thread_back program readings m t (h.threads t lt);
+      pipes = λ q lt. let p = h.pipes q lt in record { room = p.room; values = p.values };
       timers = λ j lt. let x = h.timers j lt in record { due = x.due; period = x.period };
       sources = h.sources;
       clock = h.clock;

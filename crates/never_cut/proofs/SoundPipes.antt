@@ -41,36 +41,29 @@ rooms_at program m q known =
     ∙ ap (room_in m) (get_or-enumerate_from 0 program.pipes q (0, no_pipe_def) known)
     ∙ ap (λ k. (pipe_def program q).places - length (pipe_of m k).items) (let e : 0 + q ≡ q = omega arith in e)
 
-more_commits : (places commits : ℕ) (p : PipeModel) → IsSoundPipeAt places p commits → IsSoundPipeAt places p (commits + 1)
-more_commits places commits p h = record { room = h.room; values = h.values; few = let few = h.few in omega arith }
-
-pub pipes_later : (program : Program) (pipes : List PipeModel) (commits : ℕ) → PipesSound program pipes commits → PipesSound program pipes (commits + 1)
-pipes_later program pipes commits h q known = more_commits (pipe_def program q).places commits (get_or pipes q no_pipe) (h q known)
-
--- a pipe whose first item was taken by one commit more
-without_first : (places commits : ℕ) (p : PipeModel) → IsSoundPipeAt places p commits → IsSoundPipeAt places (record { items = drop 1 p.items; taken = p.taken + 1 }) (commits + 1)
-without_first places commits p h = record {
+-- a pipe whose first item was taken
+without_first : (places : ℕ) (p : PipeModel) → IsSoundPipeAt places p → IsSoundPipeAt places (record { items = drop 1 p.items; taken = p.taken + 1 })
+without_first places p h = record {
   room = let room = h.room in omega (arith, length-drop 1 p.items);
   values = λ k. subst (λ v. v < 2 ^ 32) (sym (get_or_after_one p.items k 0)) (h.values (1 + k));
-  few = let few = h.few in omega arith;
 }
 
 -- the pipes after an event's service has begun
-pub taken_sound : (program : Program) (o : Origin) (pipes : List PipeModel) (commits : ℕ) → length pipes ≡ length program.pipes → PipesSound program pipes commits →
-    PipesSound program (taken_from o pipes) (commits + 1)
-taken_sound program (origins.Source source count) pipes commits same h = pipes_later program pipes commits h
-taken_sound program (origins.Timer timer deadline) pipes commits same h = pipes_later program pipes commits h
-taken_sound program (origins.Pipe pipe item) pipes commits same h = λ q known.
+pub taken_sound : (program : Program) (o : Origin) (pipes : List PipeModel) → length pipes ≡ length program.pipes → PipesSound program pipes →
+    PipesSound program (taken_from o pipes)
+taken_sound program (origins.Source source count) pipes same h = h
+taken_sound program (origins.Timer timer deadline) pipes same h = h
+taken_sound program (origins.Pipe pipe item) pipes same h = λ q known.
     let p : PipeModel = get_or pipes pipe.0 no_pipe in
     let new : PipeModel = record { items = drop 1 p.items; taken = p.taken + 1 } in
     elim (cases_eq q pipe.0) [
       | inl e ↦
-          subst (λ (x : PipeModel). IsSoundPipeAt (pipe_def program q).places x (commits + 1)) (sym (get_or-set_at pipes pipe.0 q new no_pipe e (let below = known in omega arith)))
-          (subst (λ k. IsSoundPipeAt (pipe_def program q).places (record { items = drop 1 (get_or pipes k no_pipe).items; taken = (get_or pipes k no_pipe).taken + 1 }) (commits + 1)) e
-          (without_first (pipe_def program q).places commits (get_or pipes q no_pipe) (h q known)))
+          subst (λ (x : PipeModel). IsSoundPipeAt (pipe_def program q).places x) (sym (get_or-set_at pipes pipe.0 q new no_pipe e (let below = known in omega arith)))
+          (subst (λ k. IsSoundPipeAt (pipe_def program q).places (record { items = drop 1 (get_or pipes k no_pipe).items; taken = (get_or pipes k no_pipe).taken + 1 })) e
+          (without_first (pipe_def program q).places (get_or pipes q no_pipe) (h q known)))
       | inr apart ↦
-          subst (λ (x : PipeModel). IsSoundPipeAt (pipe_def program q).places x (commits + 1)) (sym (get_or-set_other pipes pipe.0 q new no_pipe apart))
-          (more_commits (pipe_def program q).places commits (get_or pipes q no_pipe) (h q known))
+          subst (λ (x : PipeModel). IsSoundPipeAt (pipe_def program q).places x) (sym (get_or-set_other pipes pipe.0 q new no_pipe apart))
+          (h q known)
     ]
 
 -- no pipe has more items than before
@@ -129,9 +122,9 @@ item_fits program pipes s sends there fits q known =
     ]
 
 -- a pipe with an item more
-item_sound : (program : Program) (pipes : List PipeModel) (s : Sent) (commits : ℕ) → s.pipe.0 < length pipes → s.value < 2 ^ 32 →
-    ((q : ℕ) → q < length program.pipes → items_in (with_item s pipes) q ≤ (pipe_def program q).places) → PipesSound program pipes commits → PipesSound program (with_item s pipes) commits
-item_sound program pipes s commits there small room h q known =
+item_sound : (program : Program) (pipes : List PipeModel) (s : Sent) → s.pipe.0 < length pipes → s.value < 2 ^ 32 →
+    ((q : ℕ) → q < length program.pipes → items_in (with_item s pipes) q ≤ (pipe_def program q).places) → PipesSound program pipes → PipesSound program (with_item s pipes)
+item_sound program pipes s there small room h q known =
     let p : PipeModel = get_or pipes s.pipe.0 no_pipe in
     let new : PipeModel = record p { items = p.items ++ s.value ∷ [] } in
     record {
@@ -141,16 +134,15 @@ item_sound program pipes s commits there small room h q known =
             (last_below p.items s.value small (subst (λ j. (k : ℕ) → slice_index (get_or pipes j no_pipe).items k < 2 ^ 32) e (h q known).values))
         | inr apart ↦ subst (λ (x : PipeModel). (k : ℕ) → slice_index x.items k < 2 ^ 32) (sym (get_or-set_other pipes s.pipe.0 q new no_pipe apart)) (h q known).values
       ];
-      few = subst (λ n. n ≤ commits) (sym (kept-at no_pipe (λ (x : PipeModel). x.taken) pipes s.pipe.0 q new refl)) (h q known).few;
     }
 
 -- the pipes with what a task sent
-pub sends_sound : (program : Program) (t : ℕ) (sends : List Sent) (pipes : List PipeModel) (commits : ℕ) → length pipes ≡ length program.pipes → All (IsRightItem program t) sends →
-    Fits program pipes sends → PipesSound program pipes commits → PipesSound program (with_sends sends pipes) commits
-sends_sound program t [] pipes commits same right fits h = h
-sends_sound program t (s ∷ sends) pipes commits same right fits h =
+pub sends_sound : (program : Program) (t : ℕ) (sends : List Sent) (pipes : List PipeModel) → length pipes ≡ length program.pipes → All (IsRightItem program t) sends →
+    Fits program pipes sends → PipesSound program pipes → PipesSound program (with_sends sends pipes)
+sends_sound program t [] pipes same right fits h = h
+sends_sound program t (s ∷ sends) pipes same right fits h =
     let item : IsRightItem program t s = right 0 s (omega arith) in
     let there : s.pipe.0 < length pipes = rw same item.known in
     let more : Fits program (with_item s pipes) sends = item_fits program pipes s sends there fits in
-    sends_sound program t sends (with_item s pipes) commits (length-set pipes s.pipe.0 _ ∙ same) (λ k d lt. right (suc k) d (omega arith)) more
-    (item_sound program pipes s commits there item.value (λ q known. let all = more q known in omega arith) h)
+    sends_sound program t sends (with_item s pipes) (length-set pipes s.pipe.0 _ ∙ same) (λ k d lt. right (suc k) d (omega arith)) more
+    (item_sound program pipes s there item.value (λ q known. let all = more q known in omega arith) h)

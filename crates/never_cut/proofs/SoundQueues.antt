@@ -18,12 +18,13 @@ use Rattle.never_cut.specs.State.{thread_of, source_of, no_thread, with_thread, 
 use Rattle.never_cut.specs.Commit.{outputs_of}
 use Rattle.never_cut.specs.Entries.{Readings, readings_of, Legal, effect, IsCalm, next_event, pushed, released, with_accepted}
 use Rattle.never_cut.specs.Stands.{event_at}
-use Rattle.never_cut.specs.Sound.{IsQueued, accepted_into}
+use Rattle.never_cut.specs.Sound.{IsQueued, unsettled_into}
 use Rattle.never_cut.specs.Within.{AreShort}
 use Rattle.never_cut.proofs.Threads.{thread_of-with_same, thread_of-with_other}
-use Rattle.never_cut.proofs.Accepted.{accepted_same, accepted_more, accepted_of}
+use Rattle.never_cut.proofs.Unsettled.{next_of, unsettled_least, unsettled_one}
+use Rattle.never_cut.proofs.SoundThreads.{settled_at}
 use Rattle.never_cut.proofs.SoundParts.{IsSoundAt, IsServedBy, ThreadSound, HasSoundParts, taken_in}
-use Rattle.never_cut.proofs.SoundSources.{source_same, source_other, sources_with, source_made, sources_same}
+use Rattle.never_cut.proofs.SoundSources.{source_same, settles_more, sources_with, source_made, sources_same}
 
 -- a state in which one thread and the sources have changed
 pub thread_changes : (program : Program) (m next : Model) (t : ℕ) (x : ThreadModel) → t < length m.threads → next.threads ≡ (with_thread m t x).threads →
@@ -69,10 +70,10 @@ served_more program taken t (x ∷ held) new (origins.Source source count) value
 served_more program taken t held new (origins.Pipe pipe item) value served = served
 served_more program taken t held new (origins.Timer timer deadline) value served = served
 
-pushed_at : (program : Program) (taken : ℕ → ℕ) (t : ℕ) (x : ThreadModel) (e : Event) (accepted outs clock commits : ℕ) → IsSoundAt program taken t x accepted outs clock commits →
-    IsQueued program t e → IsSoundAt program taken t (pushed e x) (accepted + 1) outs clock commits
-pushed_at program taken t x e accepted outs clock commits h new = record {
-  published_is = let old = h.published_is in omega (arith, length-append x.held (e ∷ []), old);
+pushed_at : (program : Program) (taken : ℕ → ℕ) (t : ℕ) (x : ThreadModel) (e : Event) (left fewer outs clock : ℕ) → fewer + 1 ≤ left → IsSoundAt program taken t x left outs clock →
+    IsQueued program t e → IsSoundAt program taken t (pushed e x) fewer outs clock
+pushed_at program taken t x e left fewer outs clock less h new = record {
+  positions = let old = h.positions in omega (arith, length-append x.held (e ∷ []), old);
   queued = queued_more program t x.held e h.queued new;
   finished = λ is. (omega (arith, length-append x.held (e ∷ [])), (h.finished is).1);
   idle = h.idle;
@@ -88,7 +89,6 @@ pushed_at program taken t x e accepted outs clock commits h new = record {
       };
   outputs = h.outputs;
   first = h.first;
-  totals = h.totals;
   size = h.size;
 }
 
@@ -96,29 +96,24 @@ pushed_at program taken t x e accepted outs clock commits h new = record {
 abbrev pub push_state : Model → (i t : ℕ) → Event → Model
 push_state m i t e = with_source (with_thread m t (pushed e (thread_of m t))) i (with_accepted (source_of m i))
 
-push_accepted : (m : Model) (i t : ℕ) (e : Event) → i < length m.sources →
-    (accepted_of (push_state m i t e) i ≡ accepted_of m i + 1) × ((j : ℕ) → j ≢ i → accepted_of (push_state m i t e) j ≡ accepted_of m j)
-push_accepted m i t e lt = (
-  ap (λ (z : SourceModel). z.accepted) (source_same (with_thread m t (pushed e (thread_of m t))) i (with_accepted (source_of m i)) lt),
-  λ j ne. ap (λ (z : SourceModel). z.accepted) (source_other (with_thread m t (pushed e (thread_of m t))) i j (with_accepted (source_of m i)) ne),
+push_next : (m : Model) (i t : ℕ) (e : Event) → i < length m.sources → (next_of (push_state m i t e) i ≡ next_of m i + 1) × ((j : ℕ) → next_of m j ≤ next_of (push_state m i t e) j)
+push_next m i t e lt = (
+  ap (λ (z : SourceModel). z.next) (source_same (with_thread m t (pushed e (thread_of m t))) i (with_accepted (source_of m i)) lt),
+  settles_more (with_thread m t (pushed e (thread_of m t))) i (with_accepted (source_of m i)) lt (omega arith),
 )
 
 push_thread : (program : Program) (readings : Readings) (m : Model) (i t u : ℕ) (e : Event) → source_thread program i ≡ t → i < length program.sources → t < length program.threads →
-    IsQueued program t e → HasSoundParts program readings m → u < length program.threads → ThreadSound program (push_state m i t e) u
-push_thread program readings m i t u e of known there queued h lt =
-    let counts = push_accepted m i t e (rw h.sources_count known) in
+    (source_of m i).next < length (readings_of readings i) → IsQueued program t e → HasSoundParts program readings m → u < length program.threads → ThreadSound program readings (push_state m i t e) u
+push_thread program readings m i t u e of known there left queued h lt =
+    let next : Model = push_state m i t e in
+    let settles = push_next m i t e (rw h.sources_count known) in
     let changes = thread_changes program m (push_state m i t e) t (pushed e (thread_of m t)) (rw h.threads_count there) refl in
     elim (cases_eq u t) [
-      | inl same ↦ subst (λ v. ThreadSound program (push_state m i t e) v) (sym same)
-          (subst (λ (z : ThreadModel × ℕ). IsSoundAt program (taken_in m.pipes) t z.0 z.1 (length (outputs_of m t)) m.clock m.commits)
-          (sym (λ k. (changes.0 k, accepted_more program m (push_state m i t e) t (length program.sources) i known of counts.0 counts.1 k)))
-          (pushed_at program (taken_in m.pipes) t (thread_of m t) e _ _ _ _ (h.threads t there) queued))
-      | inr apart ↦ subst (λ (z : ThreadModel × ℕ). IsSoundAt program (taken_in m.pipes) u z.0 z.1 (length (outputs_of m u)) m.clock m.commits)
-          (sym (λ k. (
-            changes.1 u apart k,
-            accepted_same program m (push_state m i t e) u (length program.sources) (λ j _ fed. counts.1 j (λ is. apart (sym fed ∙ ap (λ v. source_thread program v) is ∙ of))) k,
-          )))
-          (h.threads u lt)
+      | inl same ↦ subst (λ v. ThreadSound program readings (push_state m i t e) v) (sym same)
+          (subst (λ (z : ThreadModel). IsSoundAt program (taken_in m.pipes) t z (unsettled_into program readings next t (length program.sources)) (length (outputs_of m t)) m.clock) (sym changes.0)
+          (pushed_at program (taken_in m.pipes) t (thread_of m t) e _ _ _ _ (unsettled_one program readings m next t (length program.sources) i known of settles.0 left settles.1) (h.threads t there) queued))
+      | inr apart ↦ subst (λ (z : ThreadModel). IsSoundAt program (taken_in m.pipes) u z (unsettled_into program readings next u (length program.sources)) (length (outputs_of m u)) m.clock) (sym (changes.1 u apart))
+          (settled_at program (taken_in m.pipes) u (thread_of m u) _ _ _ _ (unsettled_least program readings m next u (length program.sources) settles.1) (h.threads u lt))
     ]
 
 push_with : (program : Program) (readings : Readings) (m : Model) (i t : ℕ) (e : Event) → source_thread program i ≡ t → i < length program.sources → t < length program.threads →
@@ -134,7 +129,7 @@ push_with program readings m i t e of known there left queued h =
       pipes_count = h.pipes_count;
       timers_count = h.timers_count;
       sources_count = length-set m.sources i (with_accepted (source_of m i)) ∙ h.sources_count;
-      threads = λ u less. push_thread program readings m i t u e of known there queued h less;
+      threads = λ u less. push_thread program readings m i t u e of known there left queued h less;
       pipes = h.pipes;
       timers = h.timers;
       sources = sources_with readings (with_thread m t (pushed e (thread_of m t))) i (length program.sources) (with_accepted (source_of m i)) lt
@@ -159,17 +154,16 @@ queued_less program t [] h k lt = absurd (omega (arith, length-drop {A = Event} 
 queued_less program t (x ∷ held) h k lt = h (suc k) (omega arith)
 
 -- the event of a thread that has finished one: no chain of it runs
-released_at : (program : Program) (taken : ℕ → ℕ) (t : ℕ) (x : ThreadModel) (accepted outs clock commits : ℕ) → IsSoundAt program taken t x accepted outs clock commits → x.finished ≡ true →
-    IsSoundAt program taken t (released x) accepted outs clock commits
-released_at program taken t x accepted outs clock commits h is = record {
-  published_is = let some = (h.finished is).0 in let old = h.published_is in omega (arith, length-drop 1 x.held, some, old);
+released_at : (program : Program) (taken : ℕ → ℕ) (t : ℕ) (x : ThreadModel) (left outs clock : ℕ) → IsSoundAt program taken t x left outs clock → x.finished ≡ true →
+    IsSoundAt program taken t (released x) left outs clock
+released_at program taken t x left outs clock h is = record {
+  positions = let some = (h.finished is).0 in let old = h.positions in omega (arith, length-drop 1 x.held, some, old);
   queued = queued_less program t x.held h.queued;
   finished = λ e. absurd (let clash : false ≡ true = e in cc);
   idle = h.idle;
   chain = λ task runs. absurd (let clash : None ≡ Some task = sym (h.finished is).1 ∙ runs in cc);
   outputs = h.outputs;
   first = h.first;
-  totals = h.totals;
   size = h.size;
 }
 
@@ -184,11 +178,12 @@ release_sound program readings m t h legal =
       timers_count = h.timers_count;
       sources_count = h.sources_count;
       threads = λ u lt. elim (cases_eq u t.0) [
-        | inl same ↦ subst (λ v. ThreadSound program (with_thread m t.0 (released (thread_of m t.0))) v) (sym same)
-            (subst (λ z. IsSoundAt program (taken_in m.pipes) t.0 z (accepted_into program m t.0 (length program.sources)) (length (outputs_of m t.0)) m.clock m.commits) (sym changes.0)
-            (subst (λ n. IsSoundAt program (taken_in m.pipes) t.0 (released (thread_of m t.0)) n (length (outputs_of m t.0)) m.clock m.commits) refl
-            (released_at program (taken_in m.pipes) t.0 (thread_of m t.0) _ _ _ _ (h.threads t.0 legal.0) legal.1)))
-        | inr apart ↦ subst (λ z. IsSoundAt program (taken_in m.pipes) u z (accepted_into program m u (length program.sources)) (length (outputs_of m u)) m.clock m.commits) (sym (changes.1 u apart)) (h.threads u lt)
+        | inl same ↦ subst (λ v. ThreadSound program readings next v) (sym same)
+            (subst (λ z. IsSoundAt program (taken_in m.pipes) t.0 z (unsettled_into program readings next t.0 (length program.sources)) (length (outputs_of m t.0)) m.clock) (sym changes.0)
+            (released_at program (taken_in m.pipes) t.0 (thread_of m t.0) _ _ _
+            (settled_at program (taken_in m.pipes) t.0 (thread_of m t.0) _ _ _ _ (unsettled_least program readings m next t.0 (length program.sources) (λ j. omega arith)) (h.threads t.0 legal.0)) legal.1))
+        | inr apart ↦ subst (λ z. IsSoundAt program (taken_in m.pipes) u z (unsettled_into program readings next u (length program.sources)) (length (outputs_of m u)) m.clock) (sym (changes.1 u apart))
+            (settled_at program (taken_in m.pipes) u (thread_of m u) _ _ _ _ (unsettled_least program readings m next u (length program.sources) (λ j. omega arith)) (h.threads u lt))
       ];
       pipes = h.pipes;
       timers = h.timers;

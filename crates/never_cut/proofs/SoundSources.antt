@@ -1,5 +1,5 @@
 -- The sources of a sound state; a reading that is refused or passed over keeps a state sound.
-use Rattle.std.proofs.Common.{◌≡◌, ◌≢◌, ℕ, ◌<◌, ◌≤◌, true, false, List, length, get_or, refl, sym, ap, ◌∙◌, arith, subst, inl, inr, length-set, get_or-set_same, get_or-set_other}
+use Rattle.std.proofs.Common.{◌≡◌, ◌≢◌, ℕ, ◌<◌, ◌≤◌, true, false, List, length, get_or, sym, ap, ◌∙◌, arith, subst, inl, inr, length-set, get_or-set_same, get_or-set_other}
 use Rattle.std.proofs.lemmas.Bool.{cases_eq}
 use Rattle.ink_base.specs.declared.ids.SourceId.{SourceId}
 use Rattle.ink_base.specs.declared.entry.Entry.TheVariants.{Refuse, Skip}
@@ -7,11 +7,11 @@ use Rattle.task_isa.specs.declared.program.Program.{Program}
 use Rattle.never_cut.specs.declared.model.Model.{Model}
 use Rattle.never_cut.specs.declared.source_model.SourceModel.{SourceModel}
 use Rattle.never_cut.specs.State.{thread_of, source_of, no_source, with_source}
-use Rattle.never_cut.specs.Commit.{outputs_of}
 use Rattle.never_cut.specs.Entries.{Readings, readings_of, Legal, effect, with_refused, with_skipped}
 use Rattle.never_cut.specs.Sound.{IsSoundSource}
-use Rattle.never_cut.proofs.Accepted.{accepted_same, accepted_of}
-use Rattle.never_cut.proofs.SoundParts.{IsSoundAt, HasSoundParts, taken_in}
+use Rattle.never_cut.proofs.Unsettled.{next_of, unsettled_least}
+use Rattle.never_cut.proofs.SoundThreads.{settled_at}
+use Rattle.never_cut.proofs.SoundParts.{HasSoundParts, taken_in}
 
 pub source_same : (m : Model) (i : ℕ) (s : SourceModel) → i < length m.sources → source_of (with_source m i s) i ≡ s
 source_same m i s lt = get_or-set_same m.sources i s no_source lt
@@ -41,21 +41,26 @@ source_made readings m i s lt ordered within refused =
       refused = subst (λ (z : SourceModel). z.refused ≡ true → z.next < length (readings_of readings i)) (sym e) refused;
     }
 
--- a source that accepts nothing
+-- a source that has settled no fewer readings
+pub settles_more : (m : Model) (i : ℕ) (s : SourceModel) → i < length m.sources → next_of m i ≤ s.next → (j : ℕ) → next_of m j ≤ next_of (with_source m i s) j
+settles_more m i s lt more j =
+    elim (cases_eq j i) [
+      | inl is ↦ subst (λ (k : ℕ). next_of m k ≤ next_of (with_source m i s) k) (sym is) (omega (arith, more, ap (λ (z : SourceModel). z.next) (source_same m i s lt)))
+      | inr apart ↦ omega (arith, ap (λ (z : SourceModel). z.next) (source_other m i j s apart))
+    ]
+
+-- a source that accepts nothing, and has settled no fewer readings
 accepts_nothing : (program : Program) (readings : Readings) (m : Model) (i : ℕ) (s : SourceModel) → i < length program.sources → HasSoundParts program readings m →
-    s.accepted ≡ accepted_of m i → IsSoundSource readings (with_source m i s) i → HasSoundParts program readings (with_source m i s)
-accepts_nothing program readings m i s lt h same new =
+    next_of m i ≤ s.next → IsSoundSource readings (with_source m i s) i → HasSoundParts program readings (with_source m i s)
+accepts_nothing program readings m i s lt h more new =
     let known : i < length m.sources = rw h.sources_count lt in
     record {
       threads_count = h.threads_count;
       pipes_count = h.pipes_count;
       timers_count = h.timers_count;
       sources_count = length-set m.sources i s ∙ h.sources_count;
-      threads = λ t within. subst (λ n. IsSoundAt program (taken_in m.pipes) t (thread_of m t) n (length (outputs_of m t)) m.clock m.commits)
-          (sym (accepted_same program m (with_source m i s) t (length program.sources) (λ j _ _. elim (cases_eq j i) [
-            | inl is ↦ ap (λ k. accepted_of (with_source m i s) k) is ∙ ap (λ (z : SourceModel). z.accepted) (source_same m i s known) ∙ same ∙ ap (λ k. accepted_of m k) (sym is)
-            | inr apart ↦ ap (λ (z : SourceModel). z.accepted) (source_other m i j s apart)
-          ]))) (h.threads t within);
+      threads = λ t within. settled_at program (taken_in m.pipes) t (thread_of m t) _ _ _ _
+          (unsettled_least program readings m (with_source m i s) t (length program.sources) (settles_more m i s known more)) (h.threads t within);
       pipes = h.pipes;
       timers = h.timers;
       sources = sources_with readings m i (length program.sources) s known h.sources new;
@@ -70,7 +75,7 @@ pub refuse_sound : (program : Program) (readings : Readings) (m : Model) (i : So
 refuse_sound program readings m i h legal =
     let s = h.sources i.0 legal.0 in
     let known : i.0 < length m.sources = rw h.sources_count legal.0 in
-    accepts_nothing program readings m i.0 (with_refused (source_of m i.0)) legal.0 h refl
+    accepts_nothing program readings m i.0 (with_refused (source_of m i.0)) legal.0 h (omega arith)
     (source_made readings m i.0 (with_refused (source_of m i.0)) known s.ordered s.within (λ _. legal.1))
 
 pub skip_sound : (program : Program) (readings : Readings) (m : Model) (i : SourceId) → HasSoundParts program readings m → Legal program readings m (Skip i) →
@@ -79,7 +84,7 @@ skip_sound program readings m i h legal =
     let s = h.sources i.0 legal.0 in
     let known : i.0 < length m.sources = rw h.sources_count legal.0 in
     let left = s.refused legal.1 in
-    accepts_nothing program readings m i.0 (with_skipped (source_of m i.0)) legal.0 h refl
+    accepts_nothing program readings m i.0 (with_skipped (source_of m i.0)) legal.0 h (omega arith)
     (source_made readings m i.0 (with_skipped (source_of m i.0)) known (omega (arith, s.ordered)) (omega arith) (λ e. absurd (let clash : false ≡ true = e in cc)))
 
 -- the sources of a state that has the same ones

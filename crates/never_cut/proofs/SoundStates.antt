@@ -1,26 +1,26 @@
 -- Every state that a legal journal of an accepted program reaches is sound, and its positions fit their bits.
-use Rattle.std.proofs.Common.{◌≡◌, ℕ, zero, suc, ◌*◌, ◌<◌, ◌≤◌, true, false, List, [], ◌∷◌, length, map, get_or, Some, None, refl, sym, ap, arith, subst, inl, inr}
-use Rattle.std.proofs.lemmas.Bool.{cases_lt}
-use Rattle.std.proofs.lemmas.List.{get_or_past, get_or-map, length-map, length-replicate}
+use Rattle.std.proofs.Common.{◌≡◌, ℕ, zero, suc, ◌<◌, ◌≤◌, true, false, List, [], ◌∷◌, length, map, get_or, Some, None, refl, sym, arith, subst}
+use Rattle.std.proofs.lemmas.List.{get_or-map, length-map, length-replicate}
 use Rattle.ink_base.specs.declared.ids.ThreadId.{ThreadId}
 use Rattle.ink_base.specs.declared.entry.Entry.{Entry}
 use Rattle.ink_base.specs.declared.entry.Entry.TheVariants.{Push, Refuse, Skip, Tick, Scan, Look, Commit, Release}
 use Rattle.task_isa.specs.declared.program.Program.{Program}
 use Rattle.task_isa.specs.declared.program.ThreadDef.{ThreadDef}
 use Rattle.task_isa.specs.declared.program.PipeDef.{PipeDef}
+use Rattle.push_core.specs.Table.{greatest_tail}
 use Rattle.prog_check.specs.Accepted.{IsAccepted}
 use Rattle.prog_check.specs.Lookup.{thread_def, pipe_def, no_thread_def, no_timer_def}
 use Rattle.never_cut.specs.declared.model.Model.{Model}
 use Rattle.never_cut.specs.declared.thread_model.ThreadModel.{ThreadModel}
 use Rattle.never_cut.specs.declared.pipe_model.PipeModel.{PipeModel}
 use Rattle.never_cut.specs.declared.source_model.SourceModel.{SourceModel}
-use Rattle.never_cut.specs.State.{thread_of, source_of, no_thread, no_pipe, no_timer, no_source, open_model, open_thread, open_pipe, open_timer, open_source}
+use Rattle.never_cut.specs.State.{thread_of, no_thread, no_pipe, no_timer, no_source, open_model, open_thread, open_pipe, open_timer, open_source}
 use Rattle.never_cut.specs.Entries.{Readings, readings_of, Legal, effect}
-use Rattle.never_cut.specs.Journal.{after_from, IsLegalFrom}
+use Rattle.never_cut.specs.Journal.{after, IsLegal}
 use Rattle.never_cut.specs.Stands.{published}
-use Rattle.never_cut.specs.Sound.{IsSound, IsSoundSource, accepted_into}
+use Rattle.never_cut.specs.Sound.{IsSound, IsSoundSource, unsettled_into}
 use Rattle.never_cut.specs.Within.{AreShort}
-use Rattle.never_cut.proofs.Accepted.{accepted_bound, accepted_of}
+use Rattle.never_cut.proofs.Unsettled.{unsettled_bound}
 use Rattle.never_cut.proofs.SoundParts.{IsSoundAt, ThreadSound, IsSoundPipeAt, IsSoundTimerAt, HasSoundParts, parts_of, sound_of, taken_in}
 use Rattle.never_cut.proofs.SoundSources.{refuse_sound, skip_sound}
 use Rattle.never_cut.proofs.SoundScans.{tick_sound, scan_sound, look_sound}
@@ -54,25 +54,21 @@ open_source_at [] i = refl
 open_source_at (s ∷ sources) zero = refl
 open_source_at (s ∷ sources) (suc i) = open_source_at sources i
 
-none_accepted : (program : Program) (t n : ℕ) → accepted_into program (open_model program) t n ≡ 0
-none_accepted program t n =
-    let bound : accepted_into program (open_model program) t n ≤ n * 0 =
-    accepted_bound program (open_model program) t n 0 (λ i. let none : accepted_of (open_model program) i ≡ 0 = ap (λ (z : SourceModel). z.accepted) (open_source_at program.sources i) in omega arith) in
-    omega arith
-
-open_thread_sound : (program : Program) (t : ℕ) → t < length program.threads → ThreadSound program (open_model program) t
-open_thread_sound program t lt =
-    subst (λ (z : ThreadModel × ℕ). IsSoundAt program (taken_in (open_model program).pipes) t z.0 z.1 0 0 0)
-    (sym (λ k. (open_at program.threads t lt k, none_accepted program t (length program.sources) k)))
+open_thread_sound : (program : Program) (readings : Readings) (t : ℕ) → IsAccepted program → ((i : ℕ) → length (readings_of readings i) ≤ 65535) → t < length program.threads → ThreadSound program readings (open_model program) t
+open_thread_sound program readings t accepted short lt =
+    subst (λ (z : ThreadModel). IsSoundAt program (taken_in (open_model program).pipes) t z (unsettled_into program readings (open_model program) t (length program.sources)) 0 0)
+    (sym (open_at program.threads t lt))
     (record {
-      published_is = refl;
+      positions =
+          let few = accepted.counts.sources in
+          let bound = unsettled_bound program readings (open_model program) t (length program.sources) 65535 short in
+          omega arith;
       queued = λ k less. absurd (omega arith);
       finished = λ is. absurd (let clash : false ≡ true = is in cc);
       idle = λ _. refl;
       chain = λ task is. absurd (let clash : None ≡ Some task = is in cc);
       outputs = omega arith;
       first = omega arith;
-      totals = omega arith;
       size = length-replicate {A = ℕ} (thread_def program t).state 0;
     })
 
@@ -81,8 +77,8 @@ open_pipe_at [] q = refl
 open_pipe_at (d ∷ defs) zero = refl
 open_pipe_at (d ∷ defs) (suc q) = open_pipe_at defs q
 
-open_pipe_sound : (places : ℕ) → IsSoundPipeAt places no_pipe 0
-open_pipe_sound places = record { room = omega arith; values = λ k. omega arith; few = omega arith }
+open_pipe_sound : (places : ℕ) → IsSoundPipeAt places no_pipe
+open_pipe_sound places = record { room = omega arith; values = λ k. omega arith }
 
 open_timer_sound : (program : Program) (j : ℕ) → IsAccepted program → j < length program.timers → IsSoundTimerAt (get_or (map open_timer program.timers) j no_timer)
 open_timer_sound program j accepted lt =
@@ -102,16 +98,16 @@ open_source_sound program readings i =
     }
 
 -- the state at the start is sound
-pub open_sound : (program : Program) (readings : Readings) → IsAccepted program → IsSound program readings (open_model program)
-open_sound program readings accepted =
+pub open_sound : (program : Program) (readings : Readings) → IsAccepted program → ((i : ℕ) → length (readings_of readings i) ≤ 65535) → IsSound program readings (open_model program)
+open_sound program readings accepted short =
     sound_of program readings (open_model program)
     (record {
       threads_count = length-map program.threads open_thread;
       pipes_count = length-map program.pipes open_pipe;
       timers_count = length-map program.timers open_timer;
       sources_count = length-map program.sources open_source;
-      threads = λ t lt. open_thread_sound program t lt;
-      pipes = λ q lt. subst (λ (p : PipeModel). IsSoundPipeAt (pipe_def program q).places p 0) (sym (open_pipe_at program.pipes q)) (open_pipe_sound (pipe_def program q).places);
+      threads = λ t lt. open_thread_sound program readings t accepted short lt;
+      pipes = λ q lt. subst (λ (p : PipeModel). IsSoundPipeAt (pipe_def program q).places p) (sym (open_pipe_at program.pipes q)) (open_pipe_sound (pipe_def program q).places);
       timers = λ j lt. open_timer_sound program j accepted lt;
       sources = λ i lt. open_source_sound program readings i;
       clock = omega arith;
@@ -122,24 +118,11 @@ open_sound program readings accepted =
 
 -- the state after a legal journal is sound
 pub sound_after : (program : Program) (readings : Readings) (m : Model) (journal : List Entry) → IsAccepted program → AreShort readings → IsSound program readings m →
-    IsLegalFrom program readings m journal → IsSound program readings (after_from program readings m journal)
+    IsLegal program readings m journal → IsSound program readings (after program readings m journal)
 sound_after program readings m [] accepted short sound legal = sound
 sound_after program readings m (e ∷ journal) accepted short sound legal =
     sound_after program readings (effect program readings m e) journal accepted short (sound_step program readings m e accepted short sound legal.0) legal.1
 
--- a queue publishes at most all readings of all sources
-pub published_bound : (program : Program) (readings : Readings) (m : Model) (t : ℕ) → IsAccepted program → AreShort readings → IsSound program readings m → t < length program.threads →
-    published (thread_of m t) ≤ 1048560
-published_bound program readings m t accepted short h lt =
-    let bound : accepted_into program m t (length program.sources) ≤ length program.sources * 65535 = accepted_bound program m t (length program.sources) 65535 most in
-    let is = (h.threads t lt).published_is in
-    let few = accepted.counts.sources in
-    omega (arith, bound, is, few)
-  where
-    most : (i : ℕ) → accepted_of m i ≤ 65535
-    most i = elim (cases_lt i (length program.sources)) [
-      | inl known ↦ let s = h.sources i known in let a = s.ordered in let b = s.within in let c = short.few i in omega arith
-      | inr past ↦
-          let gone : source_of m i ≡ no_source = get_or_past m.sources i no_source (rw h.shape.sources past) in
-          let none : accepted_of m i ≡ 0 = ap (λ (z : SourceModel). z.accepted) gone in omega arith
-    ]
+-- the positions of a queue fit their bits
+pub published_bound : (program : Program) (readings : Readings) (m : Model) (t : ℕ) → IsSound program readings m → t < length program.threads → published (thread_of m t) ≤ greatest_tail
+published_bound program readings m t h lt = let fits = (h.threads t lt).positions in omega arith

@@ -24,11 +24,25 @@ served_kept program taken next t held (origins.Source source count) value same s
 served_kept program taken next t held (origins.Pipe pipe item) value same served = (served.0, served.1, served.2 ∙ sym (same pipe.0 served.0 served.1), served.3)
 served_kept program taken next t held (origins.Timer timer deadline) value same served = served
 
+-- a thread whose sources have no more readings left
+pub settled_at : (program : Program) (taken : ℕ → ℕ) (t : ℕ) (x : ThreadModel) (left fewer outs clock : ℕ) → fewer ≤ left →
+    IsSoundAt program taken t x left outs clock → IsSoundAt program taken t x fewer outs clock
+settled_at program taken t x left fewer outs clock le h = record {
+  positions = let old = h.positions in omega arith;
+  queued = h.queued;
+  finished = h.finished;
+  idle = h.idle;
+  chain = h.chain;
+  outputs = h.outputs;
+  first = h.first;
+  size = h.size;
+}
+
 -- a thread at another's commit
-pub other_at : (program : Program) (taken next : ℕ → ℕ) (t : ℕ) (x : ThreadModel) (accepted outs clock commits : ℕ) → SameTaken program t taken next →
-    IsSoundAt program taken t x accepted outs clock commits → IsSoundAt program next t x accepted outs clock (commits + 1)
-other_at program taken next t x accepted outs clock commits same h = record {
-  published_is = h.published_is;
+pub other_at : (program : Program) (taken next : ℕ → ℕ) (t : ℕ) (x : ThreadModel) (left outs clock : ℕ) → SameTaken program t taken next →
+    IsSoundAt program taken t x left outs clock → IsSoundAt program next t x left outs clock
+other_at program taken next t x left outs clock same h = record {
+  positions = h.positions;
   queued = h.queued;
   finished = h.finished;
   idle = h.idle;
@@ -44,16 +58,15 @@ other_at program taken next t x accepted outs clock commits same h = record {
       };
   outputs = h.outputs;
   first = h.first;
-  totals = let old = h.totals in omega arith;
   size = h.size;
 }
 
 -- where a service begins, the thread's first commit is at that time
-pub first_at : (program : Program) (taken : ℕ → ℕ) (t : ℕ) (x : ThreadModel) (accepted outs clock commits time : ℕ) (b : Bool) → time ≤ clock →
-    IsSoundAt program taken t x accepted outs clock commits → IsSoundAt program taken t (if b then x else record x { first = time }) accepted outs clock commits
-first_at program taken t x accepted outs clock commits time true le h = h
-first_at program taken t x accepted outs clock commits time false le h = record {
-  published_is = h.published_is;
+pub first_at : (program : Program) (taken : ℕ → ℕ) (t : ℕ) (x : ThreadModel) (left outs clock time : ℕ) (b : Bool) → time ≤ clock →
+    IsSoundAt program taken t x left outs clock → IsSoundAt program taken t (if b then x else record x { first = time }) left outs clock
+first_at program taken t x left outs clock time true le h = h
+first_at program taken t x left outs clock time false le h = record {
+  positions = h.positions;
   queued = h.queued;
   finished = h.finished;
   idle = h.idle;
@@ -62,7 +75,6 @@ first_at program taken t x accepted outs clock commits time false le h = record 
       record { known = c.known; own = c.own; event = c.event; is = c.is; served = c.served; unfinished = c.unfinished };
   outputs = h.outputs;
   first = le;
-  totals = h.totals;
   size = h.size;
 }
 
@@ -79,36 +91,34 @@ queue_held program taken t held (origins.Pipe pipe item) value served is = absur
 queue_held program taken t held (origins.Timer timer deadline) value served is = absurd (let clash : false ≡ true = is in cc)
 
 -- a thread whose service is over
-over_at : (program : Program) (taken next : ℕ → ℕ) (t : ℕ) (x : ThreadModel) (e : Event) (state : List ℕ) (served trapped expired accepted outs more clock commits : ℕ) →
-    IsSoundAt program taken t x accepted outs clock commits → IsServedBy program next t x.held e → x.finished ≡ false → length state ≡ (thread_def program t).state →
-    served + trapped + expired ≤ commits + 1 → more ≤ (thread_def program t).log →
-    IsSoundAt program next t (with_end e (record x { state = state; served = served; trapped = trapped; expired = expired })) accepted more clock (commits + 1)
-over_at program taken next t x e state served trapped expired accepted outs more clock commits h serves clear size totals fits = record {
-  published_is = h.published_is;
+over_at : (program : Program) (taken next : ℕ → ℕ) (t : ℕ) (x : ThreadModel) (e : Event) (state : List ℕ) (served trapped expired left outs more clock : ℕ) →
+    IsSoundAt program taken t x left outs clock → IsServedBy program next t x.held e → x.finished ≡ false → length state ≡ (thread_def program t).state →
+    more ≤ (thread_def program t).log →
+    IsSoundAt program next t (with_end e (record x { state = state; served = served; trapped = trapped; expired = expired })) left more clock
+over_at program taken next t x e state served trapped expired left outs more clock h serves clear size fits = record {
+  positions = h.positions;
   queued = h.queued;
   finished = λ is. (queue_held program next t x.held e.origin e.value serves (ap (λ b. b || is_of_queue e) (sym clear) ∙ is), refl);
   idle = λ _. refl;
   chain = λ task is. absurd (let clash : None ≡ Some task = is in cc);
   outputs = fits;
   first = h.first;
-  totals = totals;
   size = size;
 }
 
 -- a thread whose chain goes on
-next_at : (program : Program) (taken next : ℕ → ℕ) (t : ℕ) (x : ThreadModel) (e : Event) (task : TaskId) (state : List ℕ) (accepted outs more clock commits : ℕ) →
-    IsSoundAt program taken t x accepted outs clock commits → IsServedBy program next t x.held e → x.finished ≡ false → length state ≡ (thread_def program t).state →
+next_at : (program : Program) (taken next : ℕ → ℕ) (t : ℕ) (x : ThreadModel) (e : Event) (task : TaskId) (state : List ℕ) (left outs more clock : ℕ) →
+    IsSoundAt program taken t x left outs clock → IsServedBy program next t x.held e → x.finished ≡ false → length state ≡ (thread_def program t).state →
     IsRightOutcome program t (outcomes.Next task) → more ≤ (thread_def program t).log →
-    IsSoundAt program next t (thread_after e (outcomes.Next task) state x) accepted more clock (commits + 1)
-next_at program taken next t x e task state accepted outs more clock commits h serves clear size right fits = record {
-  published_is = h.published_is;
+    IsSoundAt program next t (thread_after e (outcomes.Next task) state x) left more clock
+next_at program taken next t x e task state left outs more clock h serves clear size right fits = record {
+  positions = h.positions;
   queued = h.queued;
   finished = λ is. absurd (let clash : false ≡ true = sym clear ∙ is in cc);
   idle = λ is. absurd (let clash : Some task ≡ None = is in cc);
   chain = λ other is. chain_of other (ap (λ (o : Option TaskId). elim o [ None ↦ 0 | Some y ↦ y.0 ]) is);
   outputs = fits;
   first = h.first;
-  totals = let old = h.totals in omega arith;
   size = size;
 }
   where
@@ -123,19 +133,19 @@ next_at program taken next t x e task state accepted outs more clock commits h s
     }
 
 -- a thread after the end of a task of it
-pub after_at : (program : Program) (taken next : ℕ → ℕ) (t : ℕ) (x : ThreadModel) (e : Event) (outcome : Outcome) (state : List ℕ) (accepted outs more clock commits : ℕ) →
-    IsSoundAt program taken t x accepted outs clock commits → IsServedBy program next t x.held e → x.finished ≡ false → length state ≡ (thread_def program t).state →
-    IsRightOutcome program t outcome → more ≤ (thread_def program t).log → IsSoundAt program next t (thread_after e outcome state x) accepted more clock (commits + 1)
-after_at program taken next t x e (outcomes.Next task) state accepted outs more clock commits h serves clear size right fits =
-    next_at program taken next t x e task state accepted outs more clock commits h serves clear size right fits
-after_at program taken next t x e outcomes.Done state accepted outs more clock commits h serves clear size right fits =
-    over_at program taken next t x e state (x.served + 1) x.trapped x.expired accepted outs more clock commits h serves clear size (let old = h.totals in omega arith) fits
-after_at program taken next t x e (outcomes.Trap code) state accepted outs more clock commits h serves clear size right fits =
-    over_at program taken next t x e x.state x.served (x.trapped + 1) x.expired accepted outs more clock commits h serves clear h.size (let old = h.totals in omega arith) fits
+pub after_at : (program : Program) (taken next : ℕ → ℕ) (t : ℕ) (x : ThreadModel) (e : Event) (outcome : Outcome) (state : List ℕ) (left outs more clock : ℕ) →
+    IsSoundAt program taken t x left outs clock → IsServedBy program next t x.held e → x.finished ≡ false → length state ≡ (thread_def program t).state →
+    IsRightOutcome program t outcome → more ≤ (thread_def program t).log → IsSoundAt program next t (thread_after e outcome state x) left more clock
+after_at program taken next t x e (outcomes.Next task) state left outs more clock h serves clear size right fits =
+    next_at program taken next t x e task state left outs more clock h serves clear size right fits
+after_at program taken next t x e outcomes.Done state left outs more clock h serves clear size right fits =
+    over_at program taken next t x e state (x.served + 1) x.trapped x.expired left outs more clock h serves clear size fits
+after_at program taken next t x e (outcomes.Trap code) state left outs more clock h serves clear size right fits =
+    over_at program taken next t x e x.state x.served (x.trapped + 1) x.expired left outs more clock h serves clear h.size fits
 
 -- a thread whose chain expired
-pub expired_at : (program : Program) (taken : ℕ → ℕ) (t : ℕ) (x : ThreadModel) (e : Event) (accepted outs clock commits : ℕ) →
-    IsSoundAt program taken t x accepted outs clock commits → IsServedBy program taken t x.held e → x.finished ≡ false →
-    IsSoundAt program taken t (expired_after e x) accepted outs clock (commits + 1)
-expired_at program taken t x e accepted outs clock commits h serves clear =
-    over_at program taken taken t x e x.state x.served x.trapped (x.expired + 1) accepted outs outs clock commits h serves clear h.size (let old = h.totals in omega arith) h.outputs
+pub expired_at : (program : Program) (taken : ℕ → ℕ) (t : ℕ) (x : ThreadModel) (e : Event) (left outs clock : ℕ) →
+    IsSoundAt program taken t x left outs clock → IsServedBy program taken t x.held e → x.finished ≡ false →
+    IsSoundAt program taken t (expired_after e x) left outs clock
+expired_at program taken t x e left outs clock h serves clear =
+    over_at program taken taken t x e x.state x.served x.trapped (x.expired + 1) left outs outs clock h serves clear h.size h.outputs

@@ -1,5 +1,5 @@
--- Each output has the number of a commit of its thread.
-use Rattle.std.proofs.Common.{◌≡◌, inl, inr, ℕ, zero, suc, ◌+◌, ◌-◌, ◌<◌, ◌≤◌, List, [], ◌∷◌, ◌++◌, length, get_or, Some, None, refl, sym, ap, ◌∙◌, subst, arith, length-append, append_assoc}
+-- Each output that a journal makes has the number of a commit of its thread.
+use Rattle.std.proofs.Common.{◌≡◌, inl, inr, ℕ, zero, suc, ◌+◌, ◌-◌, ◌≤◌, List, [], ◌∷◌, ◌++◌, length, get_or, Some, None, refl, sym, ap, ◌∙◌, subst, arith, length-append, append_assoc}
 use Rattle.std.specs.Prelude.{All, slice_get}
 use Rattle.std.specs.List.Sorted.{IsNonDecreasingBy}
 use Rattle.std.proofs.lemmas.Bool.{cases_lt}
@@ -11,11 +11,10 @@ use Rattle.ink_base.specs.declared.entry.Entry.{Entry}
 use Rattle.ink_base.specs.declared.entry.Entry.TheVariants.{Push, Refuse, Skip, Tick, Scan, Look, Commit, Release}
 use Rattle.task_isa.specs.declared.program.Program.{Program}
 use Rattle.never_cut.specs.declared.model.Model.{Model}
-use Rattle.never_cut.specs.State.{open_model}
 use Rattle.never_cut.specs.Outputs.{stamped}
 use Rattle.never_cut.specs.Entries.{Readings, Legal, effect}
-use Rattle.never_cut.specs.Journal.{after_from, IsLegal, IsLegalFrom}
-use Rattle.never_cut.specs.Laws.{committing, commits_in, IsStamped, StampsByCommits}
+use Rattle.never_cut.specs.Journal.{after, IsLegal}
+use Rattle.never_cut.specs.Laws.{committing, commits_in, IsStamped, HasStamps, StampsByCommits}
 use Rattle.never_cut.proofs.Commits.{committed-outputs, outs_of, serves}
 
 get-append : {X : Type 0} (xs ys : List X) (n : ℕ) (x : X) → slice_get xs n ≡ Some x → slice_get (xs ++ ys) n ≡ Some x
@@ -27,27 +26,26 @@ get-last : {X : Type 0} (xs : List X) (x : X) → slice_get (xs ++ x ∷ []) (le
 get-last [] x = refl
 get-last (y ∷ xs) x = get-last xs x
 
-get-within : {X : Type 0} (xs : List X) (n : ℕ) (x : X) → slice_get xs n ≡ Some x → n < length xs
-get-within [] n x is = absurd (let clash : None ≡ Some x = is in cc)
-get-within (y ∷ xs) zero x is = omega arith
-get-within (y ∷ xs) (suc n) x is = let rest = get-within xs n x is in omega arith
-
--- the outputs so far have the numbers of these commits
-record AreNumbered (commits : List ThreadId) (m : Model) : Type 0 where
-  pub count : length commits ≡ m.commits
-  pub each : All (IsStamped commits) m.outputs
+-- the outputs of a state, and those of the commits since
+record AreNumbered (first : Model) (commits : List ThreadId) (m : Model) : Type 0 where
+  pub count : first.commits + length commits ≡ m.commits
+  pub made : List Output
+  pub outputs : m.outputs ≡ first.outputs ++ made
+  pub each : All (IsStamped first.commits commits) made
+  pub below : All (λ (o : Output). o.stamp ≤ m.commits) m.outputs
   pub ordered : IsNonDecreasingBy (λ (o : Output). o.stamp) m.outputs
 
-more_numbered : (commits more : List ThreadId) (outputs : List Output) → All (IsStamped commits) outputs → All (IsStamped (commits ++ more)) outputs
-more_numbered commits more outputs each k d lt =
+more_numbered : (earlier : ℕ) (commits more : List ThreadId) (outputs : List Output) → All (IsStamped earlier commits) outputs → All (IsStamped earlier (commits ++ more)) outputs
+more_numbered earlier commits more outputs each k d lt =
     let o = each k d lt in record { before = o.before; number = o.number; own = get-append commits more o.before _ o.own }
 
 -- those of a new commit
-stamped_numbered : (commits : List ThreadId) (t : ThreadId) (outs : List ℕ) → All (IsStamped (commits ++ t ∷ [])) (stamped (length commits + 1) t.0 outs)
-stamped_numbered commits t [] = All-nil (IsStamped (commits ++ t ∷ []))
-stamped_numbered commits t (v ∷ outs) =
-    All-cons (IsStamped (commits ++ t ∷ [])) (record { stamp = length commits + 1; thread = t; value = v }) (stamped (length commits + 1) t.0 outs)
-    (record { before = length commits; number = refl; own = get-last commits t }) (stamped_numbered commits t outs)
+stamped_numbered : (earlier : ℕ) (commits : List ThreadId) (t : ThreadId) (outs : List ℕ) →
+    All (IsStamped earlier (commits ++ t ∷ [])) (stamped (earlier + length commits + 1) t.0 outs)
+stamped_numbered earlier commits t [] = All-nil (IsStamped earlier (commits ++ t ∷ []))
+stamped_numbered earlier commits t (v ∷ outs) =
+    All-cons (IsStamped earlier (commits ++ t ∷ [])) (record { stamp = earlier + length commits + 1; thread = t; value = v }) (stamped (earlier + length commits + 1) t.0 outs)
+    (record { before = length commits; number = refl; own = get-last commits t }) (stamped_numbered earlier commits t outs)
 
 same_stamp : (stamp t : ℕ) (outs : List ℕ) → All (λ (o : Output). o.stamp ≡ stamp) (stamped stamp t outs)
 same_stamp stamp t [] = All-nil (λ (o : Output). o.stamp ≡ stamp)
@@ -70,52 +68,80 @@ ordered-append n xs ys most ordered below same i j d le lt =
           ]
     ]
 
-commit_numbered : (program : Program) (readings : Readings) (commits : List ThreadId) (m : Model) (t : ThreadId) → AreNumbered commits m → Legal program readings m (Commit t) →
-    AreNumbered (commits ++ t ∷ []) (effect program readings m (Commit t))
-commit_numbered program readings commits m t h legal =
+commit_numbered : (program : Program) (readings : Readings) (first : Model) (commits : List ThreadId) (m : Model) (t : ThreadId) → AreNumbered first commits m →
+    Legal program readings m (Commit t) → AreNumbered first (commits ++ t ∷ []) (effect program readings m (Commit t))
+commit_numbered program readings first commits m t h legal =
     let s = serves program readings m t legal in
     let outs : List ℕ = outs_of program t.0 s.event s.scan.time m in
-    let is : (effect program readings m (Commit t)).outputs ≡ m.outputs ++ stamped (length commits + 1) t.0 outs =
+    let stamp : ℕ = first.commits + length commits + 1 in
+    let new : List Output = stamped stamp t.0 outs in
+    let is : (effect program readings m (Commit t)).outputs ≡ m.outputs ++ new =
     ap (λ (next : Model). next.outputs) s.makes ∙ committed-outputs program t.0 s.event s.scan.time m ∙ ap (λ n. m.outputs ++ stamped (n + 1) t.0 outs) (sym h.count) in
+    let after_is : (effect program readings m (Commit t)).commits ≡ m.commits + 1 = ap (λ (next : Model). next.commits) s.makes in
     record {
-      count = length-append commits (t ∷ []) ∙ ap (λ n. n + 1) h.count ∙ ap (λ (next : Model). next.commits) (sym s.makes);
-      each = subst (All (IsStamped (commits ++ t ∷ []))) (sym is)
-          (All-append (IsStamped (commits ++ t ∷ [])) m.outputs (stamped (length commits + 1) t.0 outs) (more_numbered commits (t ∷ []) m.outputs h.each) (stamped_numbered commits t outs));
+      count = omega (arith, length-append commits (t ∷ []), h.count, after_is);
+      made = h.made ++ new;
+      outputs = is ∙ (ap (λ l. l ++ new) h.outputs ∙ append_assoc first.outputs h.made new);
+      each = All-append (IsStamped first.commits (commits ++ t ∷ [])) h.made new (more_numbered first.commits commits (t ∷ []) h.made h.each) (stamped_numbered first.commits commits t outs);
+      below = subst (All (λ (o : Output). o.stamp ≤ (effect program readings m (Commit t)).commits)) (sym is)
+          (All-append (λ (o : Output). o.stamp ≤ (effect program readings m (Commit t)).commits) m.outputs new
+          (λ k d lt. let o = h.below k d lt in omega (arith, o, after_is))
+          (λ k d lt. let o = same_stamp stamp t.0 outs k d lt in omega (arith, o, after_is, h.count)));
       ordered = subst (IsNonDecreasingBy (λ (o : Output). o.stamp)) (sym is)
-          (ordered-append (λ (o : Output). o.stamp) m.outputs (stamped (length commits + 1) t.0 outs) (length commits + 1) h.ordered
-          (λ k d lt. let o = h.each k d lt in let within = get-within commits o.before _ o.own in omega (arith, o.number, within))
-          (same_stamp (length commits + 1) t.0 outs));
+          (ordered-append (λ (o : Output). o.stamp) m.outputs new stamp h.ordered (λ k d lt. let o = h.below k d lt in omega (arith, o, h.count)) (same_stamp stamp t.0 outs));
     }
 
-same_outputs : (commits : List ThreadId) (m next : Model) → next.outputs ≡ m.outputs → next.commits ≡ m.commits → AreNumbered commits m → AreNumbered (commits ++ []) next
-same_outputs commits m next outputs count h =
-    subst (λ c. AreNumbered c next) (sym (append-nil commits))
+same_outputs : (first : Model) (commits : List ThreadId) (m next : Model) → next.outputs ≡ m.outputs → next.commits ≡ m.commits → AreNumbered first commits m → AreNumbered first (commits ++ []) next
+same_outputs first commits m next outputs count h =
+    subst (λ c. AreNumbered first c next) (sym (append-nil commits))
     (record {
       count = h.count ∙ sym count;
-      each = subst (All (IsStamped commits)) (sym outputs) h.each;
+      made = h.made;
+      outputs = outputs ∙ h.outputs;
+      each = h.each;
+      below = subst (λ (z : ℕ × List Output). All (λ (o : Output). o.stamp ≤ z.0) z.1) (sym (λ k. (count k, outputs k))) h.below;
       ordered = subst (IsNonDecreasingBy (λ (o : Output). o.stamp)) (sym outputs) h.ordered;
     })
 
-numbered_step : (program : Program) (readings : Readings) (commits : List ThreadId) (m : Model) (e : Entry) → AreNumbered commits m → Legal program readings m e →
-    AreNumbered (commits ++ committing e) (effect program readings m e)
-numbered_step program readings commits m (Push i) h legal = same_outputs commits m (effect program readings m (Push i)) refl refl h
-numbered_step program readings commits m (Refuse i) h legal = same_outputs commits m (effect program readings m (Refuse i)) refl refl h
-numbered_step program readings commits m (Skip i) h legal = same_outputs commits m (effect program readings m (Skip i)) refl refl h
-numbered_step program readings commits m (Tick by) h legal = same_outputs commits m (effect program readings m (Tick by)) refl refl h
-numbered_step program readings commits m Scan h legal = same_outputs commits m (effect program readings m Scan) refl refl h
-numbered_step program readings commits m (Look t) h legal = same_outputs commits m (effect program readings m (Look t)) refl refl h
-numbered_step program readings commits m (Commit t) h legal = commit_numbered program readings commits m t h legal
-numbered_step program readings commits m (Release t) h legal = same_outputs commits m (effect program readings m (Release t)) refl refl h
+numbered_step : (program : Program) (readings : Readings) (first : Model) (commits : List ThreadId) (m : Model) (e : Entry) → AreNumbered first commits m → Legal program readings m e →
+    AreNumbered first (commits ++ committing e) (effect program readings m e)
+numbered_step program readings first commits m (Push i) h legal = same_outputs first commits m (effect program readings m (Push i)) refl refl h
+numbered_step program readings first commits m (Refuse i) h legal = same_outputs first commits m (effect program readings m (Refuse i)) refl refl h
+numbered_step program readings first commits m (Skip i) h legal = same_outputs first commits m (effect program readings m (Skip i)) refl refl h
+numbered_step program readings first commits m (Tick by) h legal = same_outputs first commits m (effect program readings m (Tick by)) refl refl h
+numbered_step program readings first commits m Scan h legal = same_outputs first commits m (effect program readings m Scan) refl refl h
+numbered_step program readings first commits m (Look t) h legal = same_outputs first commits m (effect program readings m (Look t)) refl refl h
+numbered_step program readings first commits m (Commit t) h legal = commit_numbered program readings first commits m t h legal
+numbered_step program readings first commits m (Release t) h legal = same_outputs first commits m (effect program readings m (Release t)) refl refl h
 
-numbered_after : (program : Program) (readings : Readings) (commits : List ThreadId) (m : Model) (entries : List Entry) → AreNumbered commits m →
-    IsLegalFrom program readings m entries → AreNumbered (commits ++ commits_in entries) (after_from program readings m entries)
-numbered_after program readings commits m [] h legal = same_outputs commits m m refl refl h
-numbered_after program readings commits m (e ∷ entries) h legal =
-    subst (λ c. AreNumbered c (after_from program readings (effect program readings m e) entries)) (append_assoc commits (committing e) (commits_in entries))
-    (numbered_after program readings (commits ++ committing e) (effect program readings m e) entries (numbered_step program readings commits m e h legal.0) legal.1)
+numbered_after : (program : Program) (readings : Readings) (first : Model) (commits : List ThreadId) (m : Model) (entries : List Entry) → AreNumbered first commits m →
+    IsLegal program readings m entries → AreNumbered first (commits ++ commits_in entries) (after program readings m entries)
+numbered_after program readings first commits m [] h legal = same_outputs first commits m m refl refl h
+numbered_after program readings first commits m (e ∷ entries) h legal =
+    subst (λ c. AreNumbered first c (after program readings (effect program readings m e) entries)) (append_assoc commits (committing e) (commits_in entries))
+    (numbered_after program readings first (commits ++ committing e) (effect program readings m e) entries (numbered_step program readings first commits m e h legal.0) legal.1)
 
-pub stamps_by_commits : (program : Program) (readings : Readings) (journal : List Entry) → IsLegal program readings journal → StampsByCommits program readings journal
-stamps_by_commits program readings journal legal =
-    let h = numbered_after program readings [] (open_model program) journal
-    (record { count = refl; each = All-nil (IsStamped []); ordered = λ i j d le lt. absurd (omega arith) }) legal in
-    record { commits = h.count; each = h.each; ordered = h.ordered }
+numbered_first : (program : Program) (readings : Readings) (first : Model) (journal : List Entry) → HasStamps first → IsLegal program readings first journal →
+    AreNumbered first (commits_in journal) (after program readings first journal)
+numbered_first program readings first journal stamps legal =
+    numbered_after program readings first [] first journal
+    (record {
+      count = omega arith;
+      made = [];
+      outputs = sym (append-nil first.outputs);
+      each = All-nil (IsStamped first.commits []);
+      below = stamps.below;
+      ordered = stamps.ordered;
+    }) legal
+
+pub stamps_by_commits : (program : Program) (readings : Readings) (first : Model) (journal : List Entry) → HasStamps first → IsLegal program readings first journal →
+    StampsByCommits program readings first journal
+stamps_by_commits program readings first journal stamps legal =
+    let h = numbered_first program readings first journal stamps legal in
+    record { commits = h.count; made = h.made; outputs = h.outputs; each = h.each; ordered = h.ordered }
+
+-- a legal journal keeps the numbers in order
+pub stamps_after : (program : Program) (readings : Readings) (first : Model) (journal : List Entry) → HasStamps first → IsLegal program readings first journal →
+    HasStamps (after program readings first journal)
+stamps_after program readings first journal stamps legal =
+    let h = numbered_first program readings first journal stamps legal in record { below = h.below; ordered = h.ordered }

@@ -2,21 +2,19 @@
 use Rattle.std.proofs.Common.{◌≡◌, inl, inr, ℕ, ◌<◌, Bool, true, false, List, [], ◌∷◌, length, Option, Some, None, refl, sym, ap, ◌∙◌, subst, length-set}
 use Rattle.std.specs.Prelude.{if◌then◌else◌}
 use Rattle.std.proofs.lemmas.Bool.{cases_eq, eq-eqb, ne_eqb}
-use Rattle.std.proofs.lemmas.List.{length-map}
-use Rattle.std.proofs.Math.ListN.{get_or-map}
 use Rattle.ink_base.specs.declared.event.Event.{Event}
 use Rattle.ink_base.specs.declared.entry.Entry.{Entry}
 use Rattle.ink_base.specs.declared.entry.Entry.TheVariants.{Push, Refuse, Skip, Tick, Scan, Look, Commit, Release}
 use Rattle.task_isa.specs.declared.program.Program.{Program}
-use Rattle.prog_check.specs.Lookup.{no_thread_def, task_def, source_thread}
+use Rattle.prog_check.specs.Lookup.{task_def, source_thread}
 use Rattle.never_cut.specs.declared.model.Model.{Model}
 use Rattle.never_cut.specs.declared.scan_model.ScanModel.{ScanModel}
 use Rattle.never_cut.specs.declared.thread_model.ThreadModel.{ThreadModel}
-use Rattle.never_cut.specs.State.{thread_of, is_running, open_model, open_thread}
+use Rattle.never_cut.specs.State.{thread_of, is_running}
 use Rattle.never_cut.specs.Pending.{pending}
 use Rattle.never_cut.specs.Commit.{commit, committed, expired_after, end_at, start_at, task_at, is_expired, thread_after, with_first}
 use Rattle.never_cut.specs.Entries.{Readings, effect, next_event, fed_by, pushed, released}
-use Rattle.never_cut.specs.Journal.{after_from}
+use Rattle.never_cut.specs.Journal.{after}
 use Rattle.never_cut.specs.Laws.{state_after, state_at_end, state_by, state_from, StatesByCommits}
 use Rattle.never_cut.proofs.Threads.{kept-set}
 use Rattle.never_cut.proofs.Commits.{committed-own, commit-other, commit-count}
@@ -87,14 +85,12 @@ effect-count program readings m (Commit t) = commit-count program t.0 m
 effect-count program readings m (Release t) = length-set m.threads t.0 _
 
 state_is : (program : Program) (readings : Readings) (t : ℕ) (m : Model) (entries : List Entry) → t < length m.threads →
-    (thread_of (after_from program readings m entries) t).state ≡ state_from program readings t m entries (thread_of m t).state
+    (thread_of (after program readings m entries) t).state ≡ state_from program readings t m entries (thread_of m t).state
 state_is program readings t m [] lt = refl
 state_is program readings t m (e ∷ entries) lt =
     state_is program readings t (effect program readings m e) entries (rw (effect-count program readings m e) lt)
     ∙ ap (state_from program readings t (effect program readings m e) entries) (state_step program readings t m e lt)
 
--- from zeros on
-pub states_by_commits : (program : Program) (readings : Readings) (journal : List Entry) → StatesByCommits program readings journal
-states_by_commits program readings journal t lt =
-    state_is program readings t (open_model program) journal (rw (length-map program.threads open_thread) lt)
-    ∙ ap (λ (x : ThreadModel). state_from program readings t (open_model program) journal x.state) (get_or-map open_thread program.threads t no_thread_def)
+pub states_by_commits : (program : Program) (readings : Readings) (first : Model) (journal : List Entry) → length first.threads ≡ length program.threads →
+    StatesByCommits program readings first journal
+states_by_commits program readings first journal count t lt = state_is program readings t first journal (rw count lt)

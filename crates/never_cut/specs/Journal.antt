@@ -3,24 +3,17 @@ use Rattle.std.specs.Prelude.{List, [], ◌∷◌, ◌++◌, Option, Some, None}
 use Rattle.ink_base.specs.declared.entry.Entry.{Entry}
 use Rattle.task_isa.specs.declared.program.Program.{Program}
 use Rattle.never_cut.specs.declared.model.Model.{Model}
-use Rattle.never_cut.specs.State.{open_model}
 use Rattle.never_cut.specs.Entries.{Readings, Legal, effect}
 
--- the state after these entries
-abbrev pub after_from : Program → Readings → Model → List Entry → Model
-after_from program readings m [] = m
-after_from program readings m (e ∷ entries) = after_from program readings (effect program readings m e) entries
-
-abbrev pub after : Program → Readings → List Entry → Model
-after program readings journal = after_from program readings (open_model program) journal
+-- the state after these entries, from a first one on
+abbrev pub after : Program → Readings → Model → List Entry → Model
+after program readings first [] = first
+after program readings first (e ∷ entries) = after program readings (effect program readings first e) entries
 
 -- each entry is legal in its place
-abbrev pub IsLegalFrom : Program → Readings → Model → List Entry → Type 0
-IsLegalFrom program readings m [] = Unit {0}
-IsLegalFrom program readings m (e ∷ entries) = Legal program readings m e × IsLegalFrom program readings (effect program readings m e) entries
-
-abbrev pub IsLegal : Program → Readings → List Entry → Type 0
-IsLegal program readings journal = IsLegalFrom program readings (open_model program) journal
+abbrev pub IsLegal : Program → Readings → Model → List Entry → Type 0
+IsLegal program readings first [] = Unit {0}
+IsLegal program readings first (e ∷ entries) = Legal program readings first e × IsLegal program readings (effect program readings first e) entries
 
 -- an entry that an access makes, or none
 abbrev pub noted : List Entry → Option Entry → List Entry

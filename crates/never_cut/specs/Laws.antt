@@ -1,5 +1,5 @@
 -- What every legal journal keeps, told by its entries and the states before them.
-use Rattle.std.specs.Prelude.{◌≡◌, ℕ, ◌+◌, ◌<◌, ◌==◌, ◌&&◌, not, if◌then◌else◌, List, [], ◌∷◌, ◌++◌, length, replicate, slice_get, All, Option, Some, None}
+use Rattle.std.specs.Prelude.{◌≡◌, ℕ, ◌+◌, ◌-◌, ◌<◌, ◌≤◌, ◌==◌, ◌&&◌, not, if◌then◌else◌, List, [], ◌∷◌, ◌++◌, length, slice_get, All, Option, Some, None}
 use Rattle.std.specs.List.{flat_map, range_with_len}
 use Rattle.std.specs.List.Sorted.{IsNonDecreasingBy}
 use Rattle.ink_base.specs.declared.ids.ThreadId.{ThreadId}
@@ -9,21 +9,18 @@ use Rattle.ink_base.specs.declared.entry.Entry.{Entry}
 use Rattle.ink_base.specs.declared.entry.Entry.TheVariants.{Push, Skip, Commit}
 use Rattle.task_isa.specs.declared.program.Program.{Program}
 use Rattle.task_isa.specs.Meaning.{task_of}
-use Rattle.prog_check.specs.Lookup.{thread_def, task_def, source_thread}
+use Rattle.prog_check.specs.Lookup.{task_def, source_thread}
 use Rattle.never_cut.specs.declared.model.Model.{Model}
-use Rattle.never_cut.specs.State.{thread_of, source_of, is_running, unfinished, open_model}
+use Rattle.never_cut.specs.State.{thread_of, source_of, is_running, unfinished}
 use Rattle.never_cut.specs.Pending.{pending}
 use Rattle.never_cut.specs.Commit.{commit, is_expired, is_of_queue, start_at, task_at}
 use Rattle.never_cut.specs.Entries.{Readings, effect, next_event}
 use Rattle.never_cut.specs.Journal.{after}
 
 -- what the entries tell, each with the state before it, in order
-abbrev pub gathered_from : {X : Type 0} → (Entry → Model → List X) → Program → Readings → Model → List Entry → List X
-gathered_from told program readings m [] = []
-gathered_from told program readings m (e ∷ entries) = told e m ++ gathered_from told program readings (effect program readings m e) entries
-
-abbrev pub gathered : {X : Type 0} → (Entry → Model → List X) → Program → Readings → List Entry → List X
-gathered told program readings journal = gathered_from told program readings (open_model program) journal
+abbrev pub gathered : {X : Type 0} → (Entry → Model → List X) → Program → Readings → Model → List Entry → List X
+gathered told program readings first [] = []
+gathered told program readings first (e ∷ entries) = told e first ++ gathered told program readings (effect program readings first e) entries
 
 -- the next reading of source i, where the entry accepts it or passes it over
 abbrev pub settled_by : ℕ → Entry → Model → List ℕ
@@ -31,10 +28,14 @@ settled_by i (Push j) m = if j.0 == i then (source_of m i).next ∷ [] else []
 settled_by i (Skip j) m = if j.0 == i then (source_of m i).next ∷ [] else []
 settled_by i _ m = []
 
--- the readings that are settled of each source are 0, 1, 2 and so on, up to its next one: each once, and in order
-abbrev pub ReadingsInOrder : Program → Readings → List Entry → Type 0
-ReadingsInOrder program readings journal =
-    (i : ℕ) → i < length program.sources → gathered (settled_by i) program readings journal ≡ range_with_len 0 (source_of (after program readings journal) i).next
+-- the readings that are settled of each source are the first state's next one, the number after it and so on, up to the one below the next one then: each
+-- once, and in order
+abbrev pub ReadingsInOrder : Program → Readings → Model → List Entry → Type 0
+ReadingsInOrder program readings first journal =
+    (i : ℕ) → i < length program.sources →
+    let start = (source_of first i).next in
+    let end = (source_of (after program readings first journal) i).next in
+    (start ≤ end) × (gathered (settled_by i) program readings first journal ≡ range_with_len start (end - start))
 
 -- the event that the entry puts into the queue of thread t
 abbrev pub queued_by : Program → Readings → ℕ → Entry → Model → List Event
@@ -51,12 +52,13 @@ abbrev pub finished_by : Program → ℕ → Entry → Model → List Event
 finished_by program t (Commit u) m = if (u.0 == t) && not (is_running (thread_of (commit program t m) t)) then of_queue (pending program m t) else []
 finished_by program t _ m = []
 
--- the events that were put into each queue are, in order, those that its thread's commits finished and the unfinished ones that it holds
-abbrev pub EachEventOnce : Program → Readings → List Entry → Type 0
-EachEventOnce program readings journal =
+-- The unfinished events that the first state holds for a thread, and then those that were put into its queue, are, in order, those that its commits finished
+-- and the unfinished ones that it holds.
+abbrev pub EachEventOnce : Program → Readings → Model → List Entry → Type 0
+EachEventOnce program readings first journal =
     (t : ℕ) → t < length program.threads →
-    gathered (queued_by program readings t) program readings journal
-    ≡ gathered (finished_by program t) program readings journal ++ unfinished (thread_of (after program readings journal) t)
+    unfinished (thread_of first t) ++ gathered (queued_by program readings t) program readings first journal
+    ≡ gathered (finished_by program t) program readings first journal ++ unfinished (thread_of (after program readings first journal) t)
 
 -- the state with which the task of a service ends, where it begins with this one
 abbrev pub state_at_end : Program → Model → ℕ → Event → ℕ → List ℕ → List ℕ
@@ -80,11 +82,11 @@ abbrev pub state_from : Program → Readings → ℕ → Model → List Entry �
 state_from program readings t m [] state = state
 state_from program readings t m (e ∷ entries) state = state_from program readings t (effect program readings m e) entries (state_by program t e m state)
 
--- the state of each thread is what its own commits make, one after the other, of zeros
-abbrev pub StatesByCommits : Program → Readings → List Entry → Type 0
-StatesByCommits program readings journal =
+-- the state of each thread is what its own commits make, one after the other, of its first state
+abbrev pub StatesByCommits : Program → Readings → Model → List Entry → Type 0
+StatesByCommits program readings first journal =
     (t : ℕ) → t < length program.threads →
-    (thread_of (after program readings journal) t).state ≡ state_from program readings t (open_model program) journal (replicate (thread_def program t).state 0)
+    (thread_of (after program readings first journal) t).state ≡ state_from program readings t first journal (thread_of first t).state
 
 -- the thread of a commit
 abbrev pub committing : Entry → List ThreadId
@@ -95,14 +97,21 @@ committing _ = []
 abbrev pub commits_in : List Entry → List ThreadId
 commits_in journal = flat_map committing journal
 
--- the output's stamp is the number, from 1 on, of one of these commits, which is of its thread
-pub record IsStamped (commits : List ThreadId) (o : Output) : Type 0 where
+-- the output's stamp is the number of one of these commits, counted on from so many earlier ones, and it is of the commit's thread
+pub record IsStamped (earlier : ℕ) (commits : List ThreadId) (o : Output) : Type 0 where
   pub before : ℕ
-  pub number : o.stamp ≡ before + 1
+  pub number : o.stamp ≡ earlier + before + 1
   pub own : slice_get commits before ≡ Some o.thread
 
--- each output has the number of a commit of its thread, and the numbers don't fall along the outputs
-pub record StampsByCommits (program : Program) (readings : Readings) (journal : List Entry) : Type 0 where
-  pub commits : length (commits_in journal) ≡ (after program readings journal).commits
-  pub each : All (IsStamped (commits_in journal)) (after program readings journal).outputs
-  pub ordered : IsNonDecreasingBy (λ (o : Output). o.stamp) (after program readings journal).outputs
+-- the numbers of the outputs don't fall along them, and are those of commits that were made
+pub record HasStamps (m : Model) : Type 0 where
+  pub below : All (λ (o : Output). o.stamp ≤ m.commits) m.outputs
+  pub ordered : IsNonDecreasingBy (λ (o : Output). o.stamp) m.outputs
+
+-- each output that isn't the first state's has the number of a commit of its thread, and the numbers don't fall along the outputs
+pub record StampsByCommits (program : Program) (readings : Readings) (first : Model) (journal : List Entry) : Type 0 where
+  pub commits : first.commits + length (commits_in journal) ≡ (after program readings first journal).commits
+  pub made : List Output
+  pub outputs : (after program readings first journal).outputs ≡ first.outputs ++ made
+  pub each : All (IsStamped first.commits (commits_in journal)) made
+  pub ordered : IsNonDecreasingBy (λ (o : Output). o.stamp) (after program readings first journal).outputs

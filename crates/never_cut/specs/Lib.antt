@@ -13,3 +13,4 @@ pub mod Within
 pub mod Replaying
 pub mod Replay
 pub mod Laws
+pub mod Start

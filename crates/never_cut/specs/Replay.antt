@@ -3,17 +3,18 @@ use Rattle.std.specs.Prelude.{ℕ, ◌<◌, List, length, take, slice_index_or}
 use Rattle.ink_base.specs.declared.entry.Entry.{Entry}
 use Rattle.ink_base.specs.declared.entry.Entry.TheVariants.{Scan}
 use Rattle.task_isa.specs.declared.program.Program.{Program}
+use Rattle.never_cut.specs.declared.model.Model.{Model}
 use Rattle.never_cut.specs.declared.replay_fault.ReplayFault.{ReplayFault}
 use Rattle.never_cut.specs.declared.replay_fault.ReplayFault.TheVariants.{Illegal, NoMemory}
 use Rattle.never_cut.specs.Entries.{Readings, Legal}
 use Rattle.never_cut.specs.Journal.{IsLegal, after}
 
 -- entry number n isn't legal in its place, and those before it are
-pub record IsFirstIllegal (program : Program) (readings : Readings) (entries : List Entry) (n : ℕ) : Type 0 where
+pub record IsFirstIllegal (program : Program) (readings : Readings) (first : Model) (entries : List Entry) (n : ℕ) : Type 0 where
   pub there : n < length entries
-  pub before : IsLegal program readings (take n entries)
-  pub illegal : ¬ Legal program readings (after program readings (take n entries)) (slice_index_or entries n Scan)
+  pub before : IsLegal program readings first (take n entries)
+  pub illegal : ¬ Legal program readings (after program readings first (take n entries)) (slice_index_or entries n Scan)
 
-abbrev pub TellsIllegal : Program → Readings → List Entry → ReplayFault → Type 0
-TellsIllegal program readings entries (Illegal n) = IsFirstIllegal program readings entries n
-TellsIllegal program readings entries NoMemory = Unit {0}
+abbrev pub TellsIllegal : Program → Readings → Model → List Entry → ReplayFault → Type 0
+TellsIllegal program readings first entries (Illegal n) = IsFirstIllegal program readings first entries n
+TellsIllegal program readings first entries NoMemory = Unit {0}

@@ -1,9 +1,10 @@
--- What holds of every state that a legal journal reaches.
-use Rattle.std.specs.Prelude.{◌≡◌, ℕ, zero, suc, ◌+◌, ◌%◌, ◌^◌, ◌<◌, ◌≤◌, ◌==◌, true, false, if◌then◌else◌, length, slice_index, Some, None}
+-- What holds of every state that a legal journal reaches, from the first image or from another state of which it holds.
+use Rattle.std.specs.Prelude.{◌≡◌, ℕ, zero, suc, ◌+◌, ◌-◌, ◌%◌, ◌^◌, ◌<◌, ◌≤◌, ◌==◌, true, false, if◌then◌else◌, length, slice_index, Some, None}
 use Rattle.std.specs.Option.{ForSome}
 use Rattle.ink_base.specs.declared.event.Event.{Event}
 use Rattle.ink_base.specs.declared.event.Origin.TheVariants as origins
 use Rattle.task_isa.specs.declared.program.Program.{Program}
+use Rattle.push_core.specs.Table.{greatest_tail}
 use Rattle.prog_check.specs.Lookup.{thread_def, pipe_def, timer_def, task_def, source_thread}
 use Rattle.never_cut.specs.declared.model.Model.{Model}
 use Rattle.never_cut.specs.State.{thread_of, pipe_of, timer_of, source_of}
@@ -19,11 +20,11 @@ pub record HasShape (program : Program) (m : Model) : Type 0 where
   pub sources : length m.sources ≡ length program.sources
   pub states : (t : ℕ) → t < length program.threads → length (thread_of m t).state ≡ (thread_def program t).state
 
--- how many events the first so many sources of a thread have had accepted
-abbrev pub accepted_into : Program → Model → ℕ → ℕ → ℕ
-accepted_into program m t zero = 0
-accepted_into program m t (suc i) =
-    accepted_into program m t i + (if source_thread program i == t then (source_of m i).accepted else 0)
+-- how many readings the first so many sources of a thread haven't settled
+abbrev pub unsettled_into : Program → Readings → Model → ℕ → ℕ → ℕ
+unsettled_into program readings m t zero = 0
+unsettled_into program readings m t (suc i) =
+    unsettled_into program readings m t i + (if source_thread program i == t then length (readings_of readings i) - (source_of m i).next else 0)
 
 -- an event of a source of this thread's queue, within its bits
 abbrev pub IsQueued : Program → ℕ → Event → Type 0
@@ -50,21 +51,19 @@ pub record IsChain (program : Program) (m : Model) (t task : ℕ) : Type 0 where
   pub served : IsServed program m t event
   pub unfinished : (thread_of m t).finished ≡ false
 
-pub record IsSoundThread (program : Program) (m : Model) (t : ℕ) : Type 0 where
-  pub published_is : published (thread_of m t) ≡ accepted_into program m t (length program.sources)
+pub record IsSoundThread (program : Program) (readings : Readings) (m : Model) (t : ℕ) : Type 0 where
+  -- each event that its queue has had, or may yet get, has a position
+  pub positions : published (thread_of m t) + unsettled_into program readings m t (length program.sources) ≤ greatest_tail
   pub queued : (k : ℕ) → k < length (thread_of m t).held → IsQueued program t (event_at (thread_of m t).held k)
   pub finished : (thread_of m t).finished ≡ true → (0 < length (thread_of m t).held) × ((thread_of m t).running ≡ None)
   pub idle : (thread_of m t).running ≡ None → (thread_of m t).event ≡ None
   pub chain : ForSome (thread_of m t).running (λ task. IsChain program m t task.0)
   pub outputs : length (outputs_of m t) ≤ (thread_def program t).log
   pub first : (thread_of m t).first ≤ m.clock
-  pub totals : (thread_of m t).served + (thread_of m t).trapped + (thread_of m t).expired ≤ m.commits
 
 pub record IsSoundPipe (program : Program) (m : Model) (q : ℕ) : Type 0 where
   pub room : length (pipe_of m q).items ≤ (pipe_def program q).places
   pub values : (k : ℕ) → slice_index (pipe_of m q).items k < 2 ^ 32
-  -- a commit takes one item at most
-  pub few : (pipe_of m q).taken ≤ m.commits
 
 pub record IsSoundTimer (m : Model) (j : ℕ) : Type 0 where
   pub due : ForSome (timer_of m j).due (λ due. due < 2 ^ 48)
@@ -78,7 +77,7 @@ pub record IsSoundSource (readings : Readings) (m : Model) (i : ℕ) : Type 0 wh
 
 pub record IsSound (program : Program) (readings : Readings) (m : Model) : Type 0 where
   pub shape : HasShape program m
-  pub threads : (t : ℕ) → t < length program.threads → IsSoundThread program m t
+  pub threads : (t : ℕ) → t < length program.threads → IsSoundThread program readings m t
   pub pipes : (q : ℕ) → q < length program.pipes → IsSoundPipe program m q
   pub timers : (j : ℕ) → j < length program.timers → IsSoundTimer m j
   pub sources : (i : ℕ) → i < length program.sources → IsSoundSource readings m i

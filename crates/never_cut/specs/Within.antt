@@ -1,5 +1,5 @@
 -- The bounds of a state that few entries lead to, and the readings that a board can have.
-use Rattle.std.specs.Prelude.{◌≡◌, ℕ, ◌-◌, ◌^◌, ◌<◌, ◌≤◌, true, length, slice_index, All}
+use Rattle.std.specs.Prelude.{◌≡◌, ℕ, ◌+◌, ◌-◌, ◌*◌, ◌^◌, ◌<◌, ◌≤◌, Bool, true, false, length, slice_index, All, Some, None}
 use Rattle.std.specs.Option.{ForSome}
 use Rattle.ink_base.specs.declared.event.Event.{Event}
 use Rattle.ink_base.specs.declared.event.Origin.TheVariants as origins
@@ -10,6 +10,7 @@ use Rattle.never_cut.specs.declared.source_model.SourceModel.{SourceModel}
 use Rattle.never_cut.specs.State.{thread_of, pipe_of, source_of}
 use Rattle.never_cut.specs.Commit.{is_of_queue}
 use Rattle.never_cut.specs.Entries.{Readings, readings_of}
+use Rattle.never_cut.specs.Stands.{flag}
 
 -- one list of readings for each source, none of them too long
 pub record AreReadings (program : Program) (readings : Readings) : Type 0 where
@@ -58,3 +59,24 @@ pub record IsWithin (program : Program) (n : ℕ) (m : Model) : Type 0 where
 -- there is room for another entry
 abbrev pub HasRoom : Program → Model → Type 0
 HasRoom program m = IsWithin program (2 ^ 32 - 2) m
+
+-- a scan has begun
+abbrev pub is_scanning : Model → Bool
+is_scanning m = elim m.scan [ Some scan ↦ true | None ↦ false ]
+
+-- A count that has room for so many entries: it stays below 2^32 - 1. Two entries raise it by one at most, since a scan begins before each commit.
+abbrev pub HasRoomFor : (left : ℕ) → (scanning : Bool) → (count : ℕ) → Type 0
+HasRoomFor left scanning count = 2 * count + flag scanning + left < 2 ^ 33 - 2
+
+-- the counts of a thread have room for so many entries: of the events that were finished, and of the services that ended
+pub record LastsThread (left : ℕ) (scanning : Bool) (x : ThreadModel) : Type 0 where
+  pub ended : HasRoomFor left scanning (x.released + flag x.finished)
+  pub served : HasRoomFor left scanning x.served
+  pub trapped : HasRoomFor left scanning x.trapped
+  pub expired : HasRoomFor left scanning x.expired
+
+-- every count that commits raise has room for so many entries
+pub record Lasts (left : ℕ) (m : Model) : Type 0 where
+  pub commits : HasRoomFor left (is_scanning m) m.commits
+  pub threads : (t : ℕ) → LastsThread left (is_scanning m) (thread_of m t)
+  pub taken : (q : ℕ) → HasRoomFor left (is_scanning m) (pipe_of m q).taken

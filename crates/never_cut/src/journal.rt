@@ -4,6 +4,9 @@ ghost use Rattle.std.specs.Prelude.{◌≡◌, ◌^◌, ◌<◌, length, take, I
 ghost use Rattle.never_cut.specs.Journal.{IsLegal, after};
 ghost use Rattle.never_cut.specs.Laws.{EachEventOnce, ReadingsInOrder, StampsByCommits, StatesByCommits};
 ghost use Rattle.never_cut.specs.Replay.{TellsIllegal};
+ghost use Rattle.never_cut.specs.Replaying.{model_of};
+ghost use Rattle.never_cut.specs.Start.{CanStart};
+ghost use Rattle.never_cut.specs.State.{open_model};
 ghost use Rattle.never_cut.specs.Within.{AreReadings};
 
 use crate::model::Model;
@@ -24,21 +27,44 @@ pub fn replay(
 ) -> Result<Model, ReplayFault>
     requires readings { AreReadings program.now readings.now }
     requires few { length entries.now < 2 ^ 32 }
-    ensures legal { IfOk result (λ _. IsLegal program.now readings.now entries.now) }
-    ensures state { IfOk result (λ m. m ≡ after program.now readings.now entries.now) }
+    ensures legal { IfOk result (λ _. IsLegal program.now readings.now (open_model program.now) entries.now) }
+    ensures state { IfOk result (λ m. m ≡ after program.now readings.now (open_model program.now) entries.now) }
 
     // What every accepted list tells: each reading is settled once and in order; each event of a queue is finished once and in order, or is
     // still held; a thread's state is what its own commits made of it; each output is stamped with the number of a commit of its thread.
-    ensures in_order { IfOk result (λ _. ReadingsInOrder program.now readings.now entries.now) }
-    ensures each_once { IfOk result (λ _. EachEventOnce program.now readings.now entries.now) }
-    ensures states { IfOk result (λ _. StatesByCommits program.now readings.now entries.now) }
-    ensures stamps { IfOk result (λ _. StampsByCommits program.now readings.now entries.now) }
+    ensures in_order { IfOk result (λ _. ReadingsInOrder program.now readings.now (open_model program.now) entries.now) }
+    ensures each_once { IfOk result (λ _. EachEventOnce program.now readings.now (open_model program.now) entries.now) }
+    ensures states { IfOk result (λ _. StatesByCommits program.now readings.now (open_model program.now) entries.now) }
+    ensures stamps { IfOk result (λ _. StampsByCommits program.now readings.now (open_model program.now) entries.now) }
 
     // An index is told exactly of the first entry that isn't legal.
-    ensures illegal { IfErr result (TellsIllegal program.now readings.now entries.now) }
+    ensures illegal { IfErr result (TellsIllegal program.now readings.now (open_model program.now) entries.now) }
+{
+    let state = Replaying::open(alloc, program.program())?;
+    replay_on(alloc, state, program, readings, entries)
+}
+
+/// The state after these entries, from the given one on, at which a run can begin.
+fn replay_on(
+    alloc: Global,
+    first: Replaying,
+    program: &Accepted,
+    readings: &[Items<u32>],
+    entries: &[Entry],
+) -> Result<Model, ReplayFault>
+    requires readings { AreReadings program.now readings.now }
+    requires few { length entries.now < 2 ^ 32 }
+    requires start { CanStart program.now readings.now (model_of first) }
+    ensures legal { IfOk result (λ _. IsLegal program.now readings.now (model_of first) entries.now) }
+    ensures state { IfOk result (λ m. m ≡ after program.now readings.now (model_of first) entries.now) }
+    ensures in_order { IfOk result (λ _. ReadingsInOrder program.now readings.now (model_of first) entries.now) }
+    ensures each_once { IfOk result (λ _. EachEventOnce program.now readings.now (model_of first) entries.now) }
+    ensures states { IfOk result (λ _. StatesByCommits program.now readings.now (model_of first) entries.now) }
+    ensures stamps { IfOk result (λ _. StampsByCommits program.now readings.now (model_of first) entries.now) }
+    ensures illegal { IfErr result (TellsIllegal program.now readings.now (model_of first) entries.now) }
 {
     let program = program.program();
-    let mut state = Replaying::open(alloc, program)?;
+    let mut state = first;
     for (n, entry) in entries.iter().enumerate() {
         if !state.may(program, readings, *entry) {
             return Err(ReplayFault::Illegal(n as u32));

@@ -17,6 +17,7 @@ use Rattle.never_cut.specs.State.{thread_of, pipe_of}
 use Rattle.never_cut.specs.Commit.{is_of_queue}
 use Rattle.never_cut.specs.Entries.{Readings, IsCalm}
 use Rattle.never_cut.specs.Sound.{IsSound, IsChain, IsServed, IsQueued}
+use Rattle.never_cut.specs.Within.{Lasts}
 use Rattle.never_cut.specs.Stands.{event_at}
 use Rattle.never_cut.specs.Actors.{IsFirstHeld}
 use Rattle.never_cut.specs.Steps.{Background}
@@ -48,7 +49,7 @@ first_queued program readings m t e sound known some is = let x = sound.threads 
 
 -- the bits of its numbers and of its value
 pub served_bits : (program : Program) (readings : Readings) (m : Model) (t : ℕ) (o : origin.Origin) (value : ℕ) → IsAccepted program → IsSound program readings m →
-    m.commits + 1 < 2 ^ 32 → t < length program.threads → IsServed program m t (record { origin = o; value = value }) → HasOriginBits o × (value < 2 ^ 32)
+    Lasts 0 m → t < length program.threads → IsServed program m t (record { origin = o; value = value }) → HasOriginBits o × (value < 2 ^ 32)
 served_bits program readings m t (origins.Source source count) value accepted sound few known h =
     let queued : IsQueued program t (record { origin = origins.Source source count; value = value }) = first_queued program readings m t _ sound known h.0 h.1 in
     let sources : length program.sources ≤ 16 = accepted.counts.sources in
@@ -59,7 +60,7 @@ served_bits program readings m t (origins.Pipe pipe item) value accepted sound f
     let pipes : length program.pipes ≤ 8 = accepted.counts.pipes in
     let is : pipe.0 < length program.pipes = h.0 in
     let taken : item + 1 ≡ (pipe_of m pipe.0).taken = h.2 in
-    let low : (pipe_of m pipe.0).taken ≤ m.commits = (sound.pipes pipe.0 is).few in
+    let low = few.taken pipe.0 in
     (((let lt : pipe.0 < 2 ^ 8 = omega arith in lt), (let lt : item < 2 ^ 32 = omega arith in lt)), h.3)
 served_bits program readings m t (origins.Timer timer deadline) value accepted sound few known h =
     let timers : length program.timers ≤ 8 = accepted.counts.timers in
@@ -81,7 +82,7 @@ served_first program m t (origins.Timer timer deadline) value h is = absurd cc
 
 -- the word of the event's origin
 pub origin_holds : (program : Program) (readings : Readings) (words : Memory) (m : Model) (thread : ThreadId) (time : ℕ) (chain : Chain) → Background program readings words m →
-    m.commits + 1 < 2 ^ 32 → ScanHolds program words m (scan_at thread time (Origin chain)) →
+    Lasts 0 m → ScanHolds program words m (scan_at thread time (Origin chain)) →
     ScanHolds program words m (scan_at thread time (Value chain (origin_of (words (place_in thread.0 chain.commit_word 3)))))
 origin_holds program readings words m thread time chain b few h =
     let k : KnowsChain program words m thread.0 time chain = h.knows in

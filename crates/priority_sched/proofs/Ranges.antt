@@ -14,6 +14,7 @@ use Rattle.never_cut.specs.State.{thread_of, pipe_of, timer_of}
 use Rattle.never_cut.specs.Entries.{Readings, IsCalm}
 use Rattle.never_cut.specs.Stands.{published, next_word, due_word}
 use Rattle.never_cut.specs.Sound.{IsSound, IsSoundPipe}
+use Rattle.never_cut.specs.Within.{Lasts}
 use Rattle.never_cut.specs.Steps.{Background}
 use Rattle.reboot.proofs.Blocks.{running_word}
 use Rattle.priority_sched.specs.declared.chain.Chain.{Chain}
@@ -38,7 +39,7 @@ next_in_range program readings m t (Some task) sound known is =
 
 -- the value of a chain's event has 32 bits
 value_in_range : (program : Program) (readings : Readings) (words : Memory) (m : Model) (t time : ℕ) (chain : Chain) (e : Event) → Background program readings words m →
-    m.commits + 1 < 2 ^ 32 → t < length program.threads → KnowsChain program words m t time chain → (thread_of m t).event ≡ Some e →
+    Lasts 0 m → t < length program.threads → KnowsChain program words m t time chain → (thread_of m t).event ≡ Some e →
     words (place_in t chain.commit_word 4) < 2 ^ 32
 value_in_range program readings words m t time chain e b few known k is =
     let served = event_served program readings m t chain.running e b.sound known k.running is in
@@ -53,13 +54,13 @@ due_in_range None low = omega arith
 due_in_range (Some tick) low = let lt : tick < 2 ^ 48 = low tick refl in omega arith
 
 -- fewer than 2 ^ 32 items were taken
-taken_in_range : (program : Program) (readings : Readings) (m : Model) (q : ℕ) → IsSound program readings m → m.commits + 1 < 2 ^ 32 → q < length program.pipes →
+taken_in_range : (program : Program) (readings : Readings) (m : Model) (q : ℕ) → IsSound program readings m → Lasts 0 m → q < length program.pipes →
     (pipe_of m q).taken < 2 ^ 32
 taken_in_range program readings m q sound few known =
-    let pipe : IsSoundPipe program m q = sound.pipes q known in let low : (pipe_of m q).taken ≤ m.commits = pipe.few in omega arith
+    let low = few.taken q in omega arith
 
 word_in_range : (program : Program) (readings : Readings) (words : Memory) (m : Model) (t time : ℕ) (at : ScanAt) → Background program readings words m →
-    m.commits + 1 < 2 ^ 32 → t < length program.threads → IsCalm program m → ScanKnows program words m t time at → IsScanWord program at (answer words (scan_wants program t at))
+    Lasts 0 m → t < length program.threads → IsCalm program m → ScanKnows program words m t time at → IsScanWord program at (answer words (scan_wants program t at))
 word_in_range program readings words m t time (Running c) b few known calm h =
     let at : words (place_in t c 1) ≡ next_word (thread_of m t).running = ap (λ k. words (place_in t k 1)) h.1 ∙ running_word program words m t known b.private in
     let low : next_word (thread_of m t).running ≤ length program.tasks = next_in_range program readings m t (thread_of m t).running b.sound known refl in
@@ -101,7 +102,7 @@ word_in_range program readings words m t time (Picked pick) b few known calm h =
 word_in_range program readings words m t time Quiet b few known calm h = tt
 
 -- a pipe that is waited for is of the program
-waiting_in_range : (program : Program) (readings : Readings) (words : Memory) (m : Model) (t time : ℕ) (w : Waiting) → IsSound program readings m → m.commits + 1 < 2 ^ 32 →
+waiting_in_range : (program : Program) (readings : Readings) (words : Memory) (m : Model) (t time : ℕ) (w : Waiting) → IsSound program readings m → Lasts 0 m →
     KnowsWaiting program words m t time w → IsWaiting program w
 waiting_in_range program readings words m t time w sound few k = (
   k.pipe.known,
@@ -109,7 +110,7 @@ waiting_in_range program readings words m t time w sound few k = (
       let is : w.taken ≡ (pipe_of m w.pipe.0).taken = k.taken in let lt : w.taken < 2 ^ 32 = omega arith in lt),
 )
 
-row_in_range : (program : Program) (readings : Readings) (words : Memory) (m : Model) (t time : ℕ) (at : ScanAt) → IsSound program readings m → m.commits + 1 < 2 ^ 32 →
+row_in_range : (program : Program) (readings : Readings) (words : Memory) (m : Model) (t time : ℕ) (at : ScanAt) → IsSound program readings m → Lasts 0 m →
     ScanKnows program words m t time at → IsScanRow program at
 row_in_range program readings words m t time (Taken idle pipe) sound few h = h.known
 row_in_range program readings words m t time (Writer w) sound few h = waiting_in_range program readings words m t time w sound few h
@@ -128,7 +129,7 @@ row_in_range program readings words m t time (Picked pick) sound few h = tt
 row_in_range program readings words m t time Quiet sound few h = tt
 
 pub scan_in_range : (program : Program) (readings : Readings) (words : Memory) (m : Model) (scan : ScanMachine) → Background program readings words m →
-    m.commits + 1 < 2 ^ 32 → ScanHolds program words m scan → IsInRange program words scan
+    Lasts 0 m → ScanHolds program words m scan → IsInRange program words scan
 scan_in_range program readings words m scan b few h = record {
   row = record { known = h.known; row = row_in_range program readings words m scan.thread.0 scan.time scan.at b.sound few h.knows };
   word = word_in_range program readings words m scan.thread.0 scan.time scan.at b few h.known h.calm h.knows;

@@ -14,6 +14,7 @@ use Rattle.never_cut.specs.State.{thread_of}
 use Rattle.never_cut.specs.Entries.{Readings, IsCalm}
 use Rattle.never_cut.specs.Stands.{flag}
 use Rattle.never_cut.specs.Steps.{Background, IsKept}
+use Rattle.never_cut.specs.Within.{Lasts}
 use Rattle.never_cut.proofs.Scans.{with_scan, scan_private, scan_queues}
 use Rattle.reboot.proofs.Blocks.{running_word, finished_word}
 use Rattle.priority_sched.specs.declared.scan_at.ScanAt.{ScanAt}
@@ -94,7 +95,7 @@ finished_holds program readings words m thread time c None b h = record {
 
 -- each access of a scan is kept
 pub scan_keeps : (program : Program) (readings : Readings) (words : Memory) (m : Model) (scan : ScanMachine) → Background program readings words m →
-    m.commits + 1 < 2 ^ 32 → ScanHolds program words m scan → ScanStep program readings words m scan
+    Lasts 0 m → ScanHolds program words m scan → ScanStep program readings words m scan
 scan_keeps program readings words m scan b few h = by_row scan.at h
   where
     kept : (p : places.Place) → IsKept program readings words m (Load p) None

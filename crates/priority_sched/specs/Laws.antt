@@ -7,6 +7,7 @@ use Rattle.never_cut.specs.declared.scan_model.ScanModel.{ScanModel}
 use Rattle.never_cut.specs.Pending.{pending}
 use Rattle.never_cut.specs.Entries.{Readings, IsCalm, IsPassed}
 use Rattle.never_cut.specs.Actors.{SamePrivate, Follows}
+use Rattle.never_cut.specs.Within.{Lasts}
 use Rattle.never_cut.specs.Steps.{Background}
 use Rattle.never_cut.specs.Picked.{IsPicked}
 use Rattle.priority_sched.specs.declared.machine.ScanMachine.{ScanMachine}
@@ -30,7 +31,7 @@ pub record IsInRange (program : Program) (words : Memory) (scan : ScanMachine) :
 abbrev pub ScanKeeps : Type 0
 ScanKeeps =
     (program : Program) (readings : Readings) (words : Memory) (m : Model) (scan : ScanMachine) →
-    Background program readings words m → m.commits + 1 < 2 ^ 32 → ScanHolds program words m scan →
+    Background program readings words m → Lasts 0 m → ScanHolds program words m scan →
     IsInRange program words scan × ScanStep program readings words m scan
 
 -- what is known outlasts the accesses of sources and clock

@@ -1,16 +1,21 @@
 //! The scan of the kernel as a machine.
 ghost use Rattle.std.specs.Prelude.{◌≡◌};
+ghost use Rattle.fram_words.specs.Places.{Load};
+ghost use Rattle.fram_words.specs.Steps.{place_of};
+ghost use Rattle.prog_check.specs.Accepted.{IsAccepted};
 ghost use Rattle.ink_layout.specs.Addresses.{at_layout};
+ghost use Rattle.ink_layout.specs.Shape.{IsOnBoard};
 ghost use Rattle.priority_sched.specs.Scan.{scan_begun, scan_wants, scan_takes, scan_point, scan_result, scan_slot, IsScan, IsScanWord};
 
 use crate::origin::event_at;
-use crate::places::{item_at, taken_at, timer_at, writer_of, written_at};
+use crate::places::{item_of, writer_of};
 use crate::scan_at::ScanAt;
 use crate::scanned::Scanned;
-use fram_words::Access;
+use fram_words::{Access, Place, Step};
 use ink_base::ThreadId;
-use ink_layout::{KernelPoint, Plan, SlotAt};
-use reboot::{commit_at, header_at, slot_at};
+use ink_layout::{KernelPoint, Plan, SlotAt, slot_of};
+use task_isa::Program;
+use thread_state::place_in;
 
 /// The kernel between two services: the thread at hand, the scan's time in ticks once the clock was loaded, and the row of the access
 /// table.
@@ -50,25 +55,45 @@ impl ScanMachine {
         requires { IsScan plan.now.accepted self.now }
         ensures { result ≡ at_layout plan.now.layout (scan_wants plan.now.accepted self.now.thread.0 self.now.at) }
     {
+        plan.access(Step::Load(self.place(plan.program())))
+    }
+
+    // The place of the access of the row.
+    fn place(&self, program: &Program) -> Place
+        requires accepted { IsAccepted program.now }
+        requires row { IsScan program.now self.now }
+        ensures load { Load (place_of result) ≡ scan_wants program.now self.now.thread.0 self.now.at }
+        ensures there { IsOnBoard program.now (place_of result) }
+    {
         let thread = self.thread;
-        Access::Load(match self.at {
-            ScanAt::Commit => commit_at(plan, thread),
-            ScanAt::Running { commit_word } => header_at(plan, thread, commit_word, 1),
-            ScanAt::Finished { commit_word, .. } => header_at(plan, thread, commit_word, 5),
-            ScanAt::Origin { chain } => header_at(plan, thread, chain.commit_word, 3),
-            ScanAt::Value { chain, .. } => header_at(plan, thread, chain.commit_word, 4),
-            ScanAt::First { chain, .. } => header_at(plan, thread, chain.commit_word, 2),
-            ScanAt::Slot { position, .. } => slot_at(plan, thread, position),
-            ScanAt::Taken { idle, pipe } => taken_at(plan, thread, idle.commit_word, pipe),
-            ScanAt::Writer { waiting } => commit_at(plan, writer_of(plan, waiting.pipe)),
+        match self.at {
+            ScanAt::Commit => Place::Commit { thread },
+            ScanAt::Running { commit_word } => place_in(thread, commit_word, 1),
+            ScanAt::Finished { commit_word, .. } => place_in(thread, commit_word, 5),
+            ScanAt::Origin { chain } => place_in(thread, chain.commit_word, 3),
+            ScanAt::Value { chain, .. } => place_in(thread, chain.commit_word, 4),
+            ScanAt::First { chain, .. } => place_in(thread, chain.commit_word, 2),
+            ScanAt::Slot { position, .. } => slot_of(program, thread, position),
+            ScanAt::Taken { idle, pipe } => place_in(thread, idle.commit_word, 18 + pipe.0 as u32),
+            ScanAt::Writer { waiting } => Place::Commit {
+                thread: writer_of(program, waiting.pipe),
+            },
             ScanAt::Written {
                 waiting,
                 commit_word,
-            } => written_at(plan, waiting.pipe, commit_word),
-            ScanAt::Item { waiting } => item_at(plan, waiting.pipe, waiting.taken),
-            ScanAt::Timer { idle, timer } => timer_at(plan, thread, idle.commit_word, timer),
-            ScanAt::Clock | ScanAt::Picked { .. } | ScanAt::Quiet => plan.layout.clock,
-        })
+            } => place_in(
+                writer_of(program, waiting.pipe),
+                commit_word,
+                10 + waiting.pipe.0 as u32,
+            ),
+            ScanAt::Item { waiting } => item_of(program, waiting.pipe, waiting.taken),
+            ScanAt::Timer { idle, timer } => place_in(
+                thread,
+                idle.commit_word,
+                26 + 2 * timer.0 as u32,
+            ),
+            ScanAt::Clock | ScanAt::Picked { .. } | ScanAt::Quiet => Place::Clock,
+        }
     }
 
     /// Takes the word that the wanted access found, goes on to the row that follows, and answers what the access stands for. A scan that

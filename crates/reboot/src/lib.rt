@@ -1,12 +1,10 @@
 //! The start of a charge: the kernel looks for the newest stamp, and releases each finished event whose slot is still full.
 #![tactic(auto)]
 
-mod address;
 mod boot_at;
 mod laws;
 mod machine;
 
-pub use address::{commit_at, header_at, slot_at};
 pub use boot_at::BootAt;
 pub use laws::boot_releases;
 pub use machine::BootMachine;

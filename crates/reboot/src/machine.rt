@@ -1,15 +1,20 @@
 //! The boot of the kernel as a machine.
 ghost use Rattle.std.specs.Prelude.{◌≡◌, ◌<◌, ◌^◌, length};
+ghost use Rattle.fram_words.specs.Places as places;
+ghost use Rattle.prog_check.specs.Accepted.{IsAccepted};
 ghost use Rattle.push_core.specs.Slots.{slot_in};
+ghost use Rattle.ink_layout.specs.Shape.{IsOnBoard};
+ghost use Rattle.fram_words.specs.Steps.{access_of};
 ghost use Rattle.ink_layout.specs.Addresses.{at_layout};
 ghost use Rattle.reboot.specs.Boot.{boot_begun, boot_wants, boot_takes, boot_next, after_slot, boot_point, boot_stamp, boot_slot, IsBoot, IsBootWord, IsOfSource};
 
-use crate::address::{ack_at, commit_at, header_at, places_of, slot_at};
 use crate::boot_at::BootAt;
-use fram_words::Access;
+use fram_words::{Access, Place, Step};
 use ink_base::ThreadId;
-use ink_layout::{KernelPoint, Plan, SlotAt};
+use ink_layout::{KernelPoint, Plan, SlotAt, slot_of};
 use push_core::{Slot, empty, read_slot};
+use task_isa::Program;
+use thread_state::place_in;
 
 /// The kernel at the start of a charge: the thread at hand, the greatest stamp that it has loaded, and the row of the access table.
 #[derive(Clone, Copy, Debug, PartialEq, Eq)]
@@ -47,24 +52,29 @@ impl BootMachine {
         requires { IsBoot plan.now.accepted self.now }
         ensures { result ≡ at_layout plan.now.layout (boot_wants plan.now.accepted self.now.thread.0 self.now.at) }
     {
+        plan.access(self.wants(plan.program()))
+    }
+
+    // The access of the row, to its place.
+    fn wants(self, program: &Program) -> Step
+        requires accepted { IsAccepted program.now }
+        requires row { IsBoot program.now self }
+        ensures step { access_of result ≡ boot_wants program.now self.thread.0 self.at }
+        ensures there { IsOnBoard program.now (places.place_of (access_of result)) }
+    {
         let thread = self.thread;
         match self.at {
-            BootAt::Commit | BootAt::Over => Access::Load(commit_at(plan, thread)),
-            BootAt::Stamp { commit_word } => Access::Load(header_at(plan, thread, commit_word, 0)),
-            BootAt::Finished { commit_word } => Access::Load(header_at(
-                plan,
-                thread,
-                commit_word,
-                5,
-            )),
-            BootAt::Slot { position } => Access::Load(slot_at(plan, thread, position)),
-            BootAt::Ack { source, count, .. } => Access::Store(
-                ack_at(plan, source),
+            BootAt::Commit | BootAt::Over => Step::Load(Place::Commit { thread }),
+            BootAt::Stamp { commit_word } => Step::Load(place_in(thread, commit_word, 0)),
+            BootAt::Finished { commit_word } => Step::Load(place_in(thread, commit_word, 5)),
+            BootAt::Slot { position } => Step::Load(slot_of(program, thread, position)),
+            BootAt::Ack { source, count, .. } => Step::Store(
+                Place::Ack { source },
                 (count as u64 + 1) % 64,
             ),
-            BootAt::Empty { position } => Access::Store(
-                slot_at(plan, thread, position),
-                empty(position + places_of(plan, thread)),
+            BootAt::Empty { position } => Step::Store(
+                slot_of(program, thread, position),
+                empty(position + program.threads.as_slice()[thread.0 as usize].queue as u32),
             ),
         }
     }

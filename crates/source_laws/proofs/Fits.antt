@@ -9,7 +9,6 @@ use Rattle.source_laws.specs.Knows.{KnowsAt, Boots}
 use Rattle.source_laws.specs.Kept.{State, Kept, IsWithin}
 use Rattle.source_laws.proofs.Sources.{stored_as}
 use Rattle.source_laws.proofs.Own.{Own}
-use Rattle.source_laws.proofs.Counts.{published_bound}
 use Rattle.source_laws.proofs.Frames.{own_of}
 
 -- the numbers of a row, and those of its stage
@@ -47,7 +46,7 @@ module _ {i places readings : ℕ} {slot : ℕ → ℕ} {v : Near} (o : Own i pl
 
 module _ (board : Board) (x : State) (i : ℕ) (w : IsWithin board) (lt : i < board.shape.sources) (h : Kept board x) where
   bound_of : published (x.model.queue (board.queue_of i)) ≤ greatest_tail
-  bound_of = published_bound board x.model.queue x.model.source (board.queue_of i) w (λ j. (h.sources j).ordered) (h.events (board.queue_of i))
+  bound_of = omega (arith, (h.events (board.queue_of i)).positions)
 
   -- the row of a source is one that its machine can come to
   pub row_fits : IsPort (port_of board i) → IsRowFor (port_of board i) (length (board.readings i)) (x.row i)

@@ -1,40 +1,40 @@
 -- The parts of what is kept that a step leaves alone.
-use Rattle.std.proofs.Common.{◌≡◌, inl, inr, ℕ, ◌<◌, length, sym, ap, ◌∙◌, subst, arith}
+use Rattle.std.proofs.Common.{◌≡◌, inl, inr, ℕ, ◌<◌, ◌≤◌, length, sym, ap, subst, arith}
 use Rattle.std.proofs.lemmas.Bool.{cases_eq}
 use Rattle.fram_words.specs.Changes.{Becomes}
 use Rattle.fram_words.specs.Places.{Tail, Ack, Src}
 use Rattle.fram_words.specs.Places as places
 use Rattle.source_laws.specs.Model.{places_for, Board, Queue, Source, published, SourceBecomes}
-use Rattle.source_laws.specs.Stands.{Stored}
+use Rattle.source_laws.specs.Stands.{Stored, event_at}
 use Rattle.push_core.specs.declared.row.Row.{Row}
 use Rattle.source_laws.specs.Knows.{Knows}
-use Rattle.source_laws.specs.Kept.{State, Kept, near, QueueKept, SourcePart, slots_of, EventsKept, IsEvent, IsOrdered, IsWithin, accepted_into}
+use Rattle.source_laws.specs.Kept.{State, Kept, near, QueueKept, SourcePart, slots_of, EventsKept, IsEvent, IsOrdered, IsWithin}
 use Rattle.source_laws.proofs.Queues.{queue_same}
 use Rattle.source_laws.proofs.Sources.{source_store}
 use Rattle.source_laws.proofs.Nears.{near_is, source_as}
-use Rattle.source_laws.proofs.Counts.{accepted_same, positions_fit, event_fits}
+use Rattle.source_laws.proofs.Counts.{unsettled_least, positions_fit, event_fits}
 use Rattle.source_laws.proofs.Own.{Own}
 
 module _ (board : Board) (x y : State) where
   pub queue_part : (t : ℕ) → ((n : ℕ) → y.word (places.Slot t n) ≡ x.word (places.Slot t n)) → y.word (Tail t) ≡ x.word (Tail t) → y.model.queue t ≡ x.model.queue t → QueueKept board x t → QueueKept board y t
   queue_part t slots tail queue h = queue_same h slots tail queue
 
-  pub events_part : (t : ℕ) → y.model.queue t ≡ x.model.queue t → ((j : ℕ) → board.queue_of j ≡ t → (y.model.source j).accepted ≡ (x.model.source j).accepted) → EventsKept board x.model.queue x.model.source t → EventsKept board y.model.queue y.model.source t
-  events_part t queue accepted h =
-      let e = subst (λ (q : Queue). (published q ≡ accepted_into board x.model.source t board.shape.sources) × ((k : ℕ) → k < length q.held → IsEvent board t (Rattle.source_laws.specs.Stands.event_at q.held k))) (sym queue) (h.number, h.events) in
-      record { events = e.1; number = e.0 ∙ sym (accepted_same board x.model.source y.model.source t board.shape.sources accepted) }
+  pub events_part : (t : ℕ) → y.model.queue t ≡ x.model.queue t → ((j : ℕ) → (x.model.source j).next ≤ (y.model.source j).next) → EventsKept board x.model.queue x.model.source t → EventsKept board y.model.queue y.model.source t
+  events_part t queue more h = record {
+    events = subst (λ (q : Queue). (k : ℕ) → k < length q.held → IsEvent board t (event_at q.held k)) (sym queue) h.events;
+    positions = omega (arith, h.positions, ap published queue, unsettled_least board x.model.source y.model.source t board.shape.sources more);
+  }
 
 -- what is known of one source
 pub own_of : (board : Board) (x : State) (i : ℕ) → IsWithin board → i < board.shape.sources → Kept board x
     → Own i (places_for board i) (length (board.readings i)) (slots_of x (board.queue_of i)) (near board x i)
 own_of board x i w lt h =
-    let ordered = λ (j : ℕ). (h.sources j).ordered in
     record {
       queue = h.queues (board.queue_of i);
       source = (h.sources i).stands;
       ordered = (h.sources i).ordered;
-      fits = event_fits board x.model.queue x.model.source (board.queue_of i) w ordered (h.events (board.queue_of i));
-      positions = omega (arith, positions_fit board x.model.queue x.model.source (board.queue_of i) w ordered (h.events (board.queue_of i)));
+      fits = event_fits board x.model.queue x.model.source (board.queue_of i) w (h.events (board.queue_of i));
+      positions = omega (arith, positions_fit board x.model.queue x.model.source (board.queue_of i) w (h.events (board.queue_of i)));
       some = w.places i lt;
       small = w.no_more (board.queue_of i);
       few = w.readings i;
@@ -42,14 +42,14 @@ own_of board x i w lt h =
 
 -- a step of source i that leaves its queue, and what it has accepted, alone
 pub kept_own : (board : Board) (x y : State) (i src : ℕ) (s : Source) (row : Row) → Becomes (Src i) src x.word y.word → SourceBecomes i s x.model y.model → Becomes i row x.row y.row
-    → s.accepted ≡ (x.model.source i).accepted → IsOrdered (length (board.readings i)) s → Stored src s
+    → s.accepted ≡ (x.model.source i).accepted → (x.model.source i).next ≤ s.next → IsOrdered (length (board.readings i)) s → Stored src s
     → Knows i (places_for board i) (length (board.readings i)) (record (near board x i) { src = src; source = s }) row
     → Kept board x → Kept board y
-kept_own board x y i src s row word model rows accepted ordered stored knows h = record {
+kept_own board x y i src s row word model rows accepted more ordered stored knows h = record {
   queues = λ t. queue_part board x y t (λ n. word.elsewhere (places.Slot t n) (λ e. cc)) (word.elsewhere (Tail t) (λ e. cc)) (queue t) (h.queues t);
-  events = λ t. events_part board x y t (queue t) (λ j _. elim (cases_eq j i) [
-    | inl same ↦ subst (λ (k : ℕ). (y.model.source k).accepted ≡ (x.model.source k).accepted) (sym same) (ap (λ (z : Source). z.accepted) model.source.here ∙ accepted)
-    | inr other ↦ ap (λ (z : Source). z.accepted) (model.source.elsewhere j other)
+  events = λ t. events_part board x y t (queue t) (λ j. elim (cases_eq j i) [
+    | inl same ↦ subst (λ (k : ℕ). (x.model.source k).next ≤ (y.model.source k).next) (sym same) (omega (arith, more, ap (λ (z : Source). z.next) model.source.here))
+    | inr other ↦ omega (arith, ap (λ (z : Source). z.next) (model.source.elsewhere j other))
   ]) (h.events t);
   sources = λ j. elim (cases_eq j i) [
     | inl same ↦ subst (SourcePart board y) (sym same)

@@ -1,5 +1,5 @@
--- The readings that legal entries settle are 0, 1, 2 and so on.
-use Rattle.std.proofs.Common.{◌≡◌, ◌⊎◌, inl, inr, ℕ, suc, ◌+◌, ◌==◌, cond, Bool, List, [], ◌∷◌, ◌++◌, refl, sym, ap, ◌∙◌, subst, arith}
+-- The readings that legal entries settle are the next one and those after it.
+use Rattle.std.proofs.Common.{◌≡◌, ◌⊎◌, inl, inr, ℕ, suc, ◌+◌, ◌-◌, ◌≤◌, ◌==◌, cond, Bool, List, [], ◌∷◌, ◌++◌, refl, sym, ap, ◌∙◌, subst, arith}
 use Rattle.std.specs.List.{range_with_len}
 use Rattle.std.proofs.lemmas.Bool.{cases_eq, eq-eqb, ne_eqb}
 use Rattle.fram_words.specs.Changes.{Becomes}
@@ -52,10 +52,10 @@ settled-is board i (e ∷ entries) old new leads = joined (settles board i e old
           ∙ ap (λ (xs : List ℕ). (old.source i).next ∷ xs) (rest.2 ∙ ap (λ (k : ℕ). range_with_len k rest.0) (let h : (leads.0.source i).next ≡ (old.source i).next + 1 = omega (arith, one.1) in h)),
     )
 
--- from nothing settled on: all numbers below the next reading
-pub settled_in_order : (board : Board) (i : ℕ) (entries : List Entry) (old new : Model) (leads : Leads board entries old new) → (old.source i).next ≡ 0
-    → settled board i entries old new leads ≡ range_with_len 0 (new.source i).next
-settled_in_order board i entries old new leads none =
+-- those from the old next reading up to the new one
+pub settled_in_order : (board : Board) (i : ℕ) (entries : List Entry) (old new : Model) (leads : Leads board entries old new)
+    → ((old.source i).next ≤ (new.source i).next) × (settled board i entries old new leads ≡ range_with_len (old.source i).next ((new.source i).next - (old.source i).next))
+settled_in_order board i entries old new leads =
     let h = settled-is board i entries old new leads in
-    let n : h.0 ≡ (new.source i).next = omega (arith, h.1) in
-    h.2 ∙ (ap (λ (k : ℕ). range_with_len k h.0) none ∙ ap (range_with_len 0) n)
+    let n : h.0 ≡ (new.source i).next - (old.source i).next = omega (arith, h.1) in
+    (omega (arith, h.1), h.2 ∙ ap (range_with_len (old.source i).next) n)

@@ -1,7 +1,7 @@
 -- The kernel's changes keep the invariant: an event is finished, acknowledged and released; and so does a cut.
-use Rattle.std.proofs.Common.{◌≡◌, ◌⊎◌, inl, inr, ℕ, suc, ◌+◌, ◌%◌, ◌<◌, true, length, drop, refl, sym, ap, ◌∙◌, subst, arith, length-drop, one-add, get_or-drop}
+use Rattle.std.proofs.Common.{◌≡◌, ◌⊎◌, inl, inr, ℕ, suc, ◌+◌, ◌%◌, ◌<◌, ◌≤◌, true, length, drop, refl, sym, ap, ◌∙◌, subst, arith, length-drop, one-add, get_or-drop}
 use Rattle.std.proofs.lemmas.Bool.{cases_eq}
-use Rattle.push_core.specs.Table.{first_row}
+use Rattle.push_core.specs.Table.{first_row, greatest_tail}
 use Rattle.push_core.specs.declared.row.Row.{Row}
 use Rattle.fram_words.specs.Changes.{Becomes}
 use Rattle.source_laws.specs.Slots.{empty}
@@ -9,17 +9,18 @@ use Rattle.fram_words.specs.Places.{Place, Tail, Ack, Src, IsShared}
 use Rattle.fram_words.specs.Places as places
 use Rattle.source_laws.specs.Model.{places_for, Board, Queue, Source, Model, places_of, published, QueueBecomes, without_first, with_finished}
 use Rattle.source_laws.specs.Stands.{IsFinishing, event_at, no_event}
-use Rattle.source_laws.specs.Kept.{State, Kept, near, QueueKept, SourceKept, EventsKept, IsEvent, IsWithin, accepted_into}
+use Rattle.source_laws.specs.Kept.{State, Kept, near, QueueKept, SourceKept, EventsKept, IsEvent, IsWithin, unsettled_into}
 use Rattle.source_laws.proofs.Queues.{queue_same, queue_finish, queue_release}
-use Rattle.source_laws.proofs.Counts.{accepted_same}
+use Rattle.source_laws.proofs.Counts.{unsettled_least}
 use Rattle.source_laws.proofs.Nears.{near_is, source_as, other_finish, own_acked, any_release}
 use Rattle.source_laws.proofs.Frames.{queue_part, events_part, slots_become}
 
--- the events of one queue
-events_as : (board : Board) (queue : ℕ → Queue) (source : ℕ → Source) (t : ℕ) (q : Queue) → queue t ≡ q → published q ≡ accepted_into board source t board.shape.sources → ((k : ℕ) → k < length q.held → IsEvent board t (event_at q.held k)) → EventsKept board queue source t
-events_as board queue source t q is number events = record {
+-- the events of one queue, which has published no more, where no source has settled fewer
+events_as : (board : Board) (old new : ℕ → Source) (queue : ℕ → Queue) (t n : ℕ) (q : Queue) → queue t ≡ q → published q ≡ n → n + unsettled_into board old t board.shape.sources ≤ greatest_tail
+    → ((j : ℕ) → new j ≡ old j) → ((k : ℕ) → k < length q.held → IsEvent board t (event_at q.held k)) → EventsKept board queue new t
+events_as board old new queue t n q is number fits same events = record {
   events = subst (λ (z : Queue). (k : ℕ) → k < length z.held → IsEvent board t (event_at z.held k)) (sym is) events;
-  number = ap published is ∙ number;
+  positions = omega (arith, ap published is, number, fits, unsettled_least board old new t board.shape.sources (λ j. omega (arith, ap (λ (z : Source). z.next) (same j))));
 }
 
 -- the first event of queue t is finished, by a commit
@@ -32,8 +33,8 @@ kept_finish board x y t0 word model rows h = record {
   ];
   events = λ t. elim (cases_eq t t0) [
     | inl same ↦ subst (EventsKept board y.model.queue y.model.source) (sym same)
-        (events_as board y.model.queue y.model.source t0 (with_finished (x.model.queue t0)) model.queue.here ((h.events t0).number ∙ sym (accepted_same board x.model.source y.model.source t0 board.shape.sources (λ j _. ap (λ (z : Source). z.accepted) (source j)))) (h.events t0).events)
-    | inr other ↦ events_part board x y t (model.queue.elsewhere t other) (λ j _. ap (λ (z : Source). z.accepted) (source j)) (h.events t)
+        (events_as board x.model.source y.model.source y.model.queue t0 (published (x.model.queue t0)) (with_finished (x.model.queue t0)) model.queue.here refl (h.events t0).positions source (h.events t0).events)
+    | inr other ↦ events_part board x y t (model.queue.elsewhere t other) (λ j. omega (arith, ap (λ (z : Source). z.next) (source j))) (h.events t)
   ];
   sources = λ j. elim (cases_eq (board.queue_of j) t0) [
     | inl here ↦ source_as (other_finish (h.sources j)) (near_is board y j (word (Tail (board.queue_of j)) tt) (word (Src j) tt) (word (Ack j) tt) (queue_here (board.queue_of j) here) (source j)) (row j)
@@ -55,7 +56,7 @@ pub kept_ack : (board : Board) (x y : State) (t0 : ℕ) → IsWithin board → (
     → Becomes (Ack (event_at (x.model.queue t0).held 0).source) (suc (event_at (x.model.queue t0).held 0).count % 64) x.word y.word → y.model ≡ x.model → y.row ≡ x.row → Kept board x → Kept board y
 kept_ack board x y t0 w finished some word model rows h = record {
   queues = λ t. queue_part board x y t (λ n. word.elsewhere (places.Slot t n) (λ e. cc)) (tail t) (queue t) (h.queues t);
-  events = λ t. events_part board x y t (queue t) (λ j _. ap (λ (z : Source). z.accepted) (source j)) (h.events t);
+  events = λ t. events_part board x y t (queue t) (λ j. omega (arith, ap (λ (z : Source). z.next) (source j))) (h.events t);
   sources = λ j. elim (cases_eq j (event_at (x.model.queue t0).held 0).source) [
     | inl same ↦
         source_as (own_acked (h.sources j) (y.word (Ack j)) (own j same) (omega (arith, (h.queues (board.queue_of j)).room, w.no_more (board.queue_of j))) (acked j same))
@@ -102,10 +103,10 @@ kept_release board x y t0 finished some acked word model rows h = record {
   ];
   events = λ t. elim (cases_eq t t0) [
     | inl same ↦ subst (EventsKept board y.model.queue y.model.source) (sym same)
-        (events_as board y.model.queue y.model.source t0 (without_first q) model.queue.here
-        (let n : suc q.released + length (drop 1 q.held) ≡ published q = omega (arith, length-drop 1 q.held) in n ∙ (h.events t0).number ∙ sym (accepted_same board x.model.source y.model.source t0 board.shape.sources (λ j _. ap (λ (z : Source). z.accepted) (source j))))
+        (events_as board x.model.source y.model.source y.model.queue t0 (published q) (without_first q) model.queue.here
+        (let n : suc q.released + length (drop 1 q.held) ≡ published q = omega (arith, length-drop 1 q.held) in n) (h.events t0).positions source
         (λ k lt. subst (IsEvent board t0) (sym (get_or-drop 1 q.held k no_event ∙ ap (event_at q.held) (one-add k))) ((h.events t0).events (suc k) (omega (arith, lt, length-drop 1 q.held)))))
-    | inr other ↦ events_part board x y t (model.queue.elsewhere t other) (λ j _. ap (λ (z : Source). z.accepted) (source j)) (h.events t)
+    | inr other ↦ events_part board x y t (model.queue.elsewhere t other) (λ j. omega (arith, ap (λ (z : Source). z.next) (source j))) (h.events t)
   ];
   sources = λ j. elim (cases_eq (board.queue_of j) t0) [
     | inl here ↦ source_as (release_here j here) (near_is board y j (tail (board.queue_of j)) (src j) (ack j) (queue_here (board.queue_of j) here) (source j)) (row j)
@@ -143,7 +144,7 @@ kept_release board x y t0 finished some acked word model rows h = record {
 pub kept_apart : (board : Board) (x y : State) → ((p : Place) → IsShared p → y.word p ≡ x.word p) → y.model ≡ x.model → ((i : ℕ) → (y.row i ≡ x.row i) ⊎ (y.row i ≡ first_row)) → Kept board x → Kept board y
 kept_apart board x y word model rows h = record {
   queues = λ t. queue_part board x y t (λ n. word (places.Slot t n) tt) (word (Tail t) tt) (queue t) (h.queues t);
-  events = λ t. events_part board x y t (queue t) (λ j _. ap (λ (z : Source). z.accepted) (source j)) (h.events t);
+  events = λ t. events_part board x y t (queue t) (λ j. omega (arith, ap (λ (z : Source). z.next) (source j))) (h.events t);
   sources = λ j. elim (rows j) [
     | inl same ↦ source_as (h.sources j) (near_same j) same
     | inr first ↦ source_as (record { stands = (h.sources j).stands; ordered = (h.sources j).ordered; knows = (refl, refl) }) (near_same j) first

@@ -1,10 +1,11 @@
--- The invariant holds from the first image on, and the words then stand for the never-cut kernel.
-use Rattle.std.proofs.Common.{◌≡◌, ◌⊎◌, inl, inr, ℕ, zero, suc, ◌/◌, ◌%◌, ◌^◌, ◌<◌, ◌≤◌, ◌==◌, cond, Bool, true, false, length, refl, ap, ◌∙◌, arith, mod-eq_of_lt}
+-- The invariant holds from any words that stand on, as the first image's, and the words then stand for the never-cut kernel.
+use Rattle.std.proofs.Common.{◌≡◌, ◌⊎◌, inl, inr, ℕ, zero, suc, ◌/◌, ◌%◌, ◌^◌, ◌<◌, ◌≤◌, length, refl, sym, ap, ◌∙◌, subst, arith, mod-eq_of_lt}
 use Rattle.fram_words.specs.Places as places
-use Rattle.source_laws.specs.Model.{places_of, Board, Queue, Source, Near, open_queue, open_source, published}
-use Rattle.source_laws.specs.Stands.{Tells}
-use Rattle.source_laws.specs.Kept.{State, Kept, near, slots_of, IsWithin, accepted_into}
-use Rattle.source_laws.specs.Steps.{IsFirst, IsRun}
+use Rattle.source_laws.specs.Model.{places_of, Board, Queue, Near, open_queue, published}
+use Rattle.source_laws.specs.Stands.{StandsSource, Tells}
+use Rattle.source_laws.specs.Kept.{State, Kept, near, slots_of, IsOrdered, IsWithin}
+use Rattle.source_laws.specs.Steps.{IsFirst, IsStart, IsRun}
+use Rattle.source_laws.proofs.Counts.{unsettled_bound}
 use Rattle.source_laws.proofs.Queues.{queue_same}
 use Rattle.source_laws.proofs.Sources.{stored_as, own_count, ack_behind, last_one}
 use Rattle.source_laws.proofs.Own.{Own}
@@ -12,19 +13,9 @@ use Rattle.source_laws.proofs.Frames.{own_of}
 use Rattle.source_laws.proofs.Nears.{near_is, source_as}
 use Rattle.source_laws.proofs.Steps.{kept_step}
 
-none_accepted : (board : Board) (source : ℕ → Source) (t n : ℕ) → ((i : ℕ) → source i ≡ open_source) → 0 ≡ accepted_into board source t n
-none_accepted board source t zero h = refl
-none_accepted board source t (suc n) h =
-    let none : (source n).accepted ≡ 0 = ap (λ (s : Source). s.accepted) (h n) in
-    let here : cond (board.queue_of n == t) (source n).accepted 0 ≡ 0 = ap (λ (a : ℕ). cond (board.queue_of n == t) a 0) none ∙ both (board.queue_of n == t) in
-    omega (arith, here, none_accepted board source t n h)
-  where
-    both : (b : Bool) → cond {A = ℕ} b 0 0 ≡ 0
-    both true = refl
-    both false = refl
-
-pub kept_first : (board : Board) (x : State) → IsFirst board x → Kept board x
-kept_first board x h = record {
+-- the first image stands, and nothing is settled
+pub start_first : (board : Board) (x : State) → IsWithin board → IsFirst board x → IsStart board x
+start_first board x w h = record {
   queues = λ t. queue_same {places = places_of board t} {slot = slots_of x t} {tail = 0} {q = open_queue}
       (record {
         room = omega arith;
@@ -32,19 +23,30 @@ kept_first board x h = record {
         empty_slots = λ s above below. let lt : s < places_of board t = omega arith in ap (λ n. x.word (places.Slot t n)) (mod-eq_of_lt lt) ∙ h.slots t s lt;
         tail_near = inl (omega arith);
       }) (λ n. refl) (h.tails t) (h.queues t);
-  events = λ t. record { events = λ k lt. absurd (let n = ap (λ (q : Queue). length q.held) (h.queues t) in omega arith); number = ap published (h.queues t) ∙ none_accepted board x.model.source t board.shape.sources h.sources };
-  sources = λ i. source_as {n = record { tail = 0; src = 0; ack = 0; queue = open_queue; source = open_source }}
-      (record {
-        stands = record { gone = 0; numbered = refl; ack_is = inl (omega arith); stored = (0, 0, omega arith, inl (refl, refl)) };
-        ordered = record { accepted = omega arith; next = omega arith };
-        knows = (refl, refl);
-      })
-      (near_is board x i (h.tails (board.queue_of i)) (h.srcs i) (h.acks i) (h.queues (board.queue_of i)) (h.sources i)) (h.rows i);
+  events = λ t. record {
+    events = λ k lt. absurd (let n = ap (λ (q : Queue). length q.held) (h.queues t) in omega arith);
+    positions = omega (arith, ap published (h.queues t), unsettled_bound board x.model.source t board.shape.sources w.readings, w.sources);
+  };
+  stands = λ i. subst (StandsSource i) (sym (near_is board x i (h.tails (board.queue_of i)) (h.srcs i) (h.acks i) (h.queues (board.queue_of i)) (h.sources i)))
+      (record { gone = 0; numbered = refl; ack_is = inl (omega arith); stored = (0, 0, omega arith, inl (refl, refl)) });
+  ordered = λ i. subst (IsOrdered (length (board.readings i))) (sym (h.sources i)) (record { accepted = omega arith; next = omega arith });
+  rows = h.rows;
 }
+
+-- what stands is kept while each source is at its first row
+pub kept_start : (board : Board) (x : State) → IsStart board x → Kept board x
+kept_start board x h = record {
+  queues = h.queues;
+  events = h.events;
+  sources = λ i. source_as (record { stands = h.stands i; ordered = h.ordered i; knows = (refl, refl) }) (λ k. near board x i) (h.rows i);
+}
+
+pub kept_first : (board : Board) (x : State) → IsWithin board → IsFirst board x → Kept board x
+kept_first board x w h = kept_start board x (start_first board x w h)
 
 -- at each moment of each run
 pub kept_run : (board : Board) (at : ℕ → State) → IsWithin board → IsRun board at → (n : ℕ) → Kept board (at n)
-kept_run board at w run zero = kept_first board (at zero) run.first
+kept_run board at w run zero = kept_start board (at zero) run.first
 kept_run board at w run (suc n) = kept_step board (at n) (at (suc n)) w (kept_run board at w run n) (run.steps n)
 
 -- SRC, ACK and the queue tell the numbers of a source

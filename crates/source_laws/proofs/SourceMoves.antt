@@ -1,5 +1,5 @@
 -- A source's changes of a word keep the invariant: the tail moves, and an event is published.
-use Rattle.std.proofs.Common.{◌≡◌, inl, inr, ℕ, suc, ◌+◌, ◌%◌, ◌<◌, ◌≤◌, [], ◌∷◌, ◌++◌, length, refl, sym, ap, ◌∙◌, subst, arith, length-append}
+use Rattle.std.proofs.Common.{◌≡◌, inl, inr, ℕ, suc, ◌%◌, ◌<◌, ◌≤◌, [], ◌∷◌, ◌++◌, length, refl, sym, ap, subst, arith, length-append}
 use Rattle.std.proofs.lemmas.Bool.{cases_eq, cases_lt}
 use Rattle.std.proofs.lemmas.List.{get_or_append_left, get_or_push}
 use Rattle.push_core.specs.Table.{src_word}
@@ -12,10 +12,10 @@ use Rattle.fram_words.specs.Places as places
 use Rattle.source_laws.specs.Model.{places_for, Board, Queue, Source, Model, published, BothBecome, event_of, with_event, with_accepted}
 use Rattle.source_laws.specs.Stands.{StandsQueue, event_at, no_event}
 use Rattle.source_laws.specs.Knows.{Knows}
-use Rattle.source_laws.specs.Kept.{State, Kept, near, slots_of, QueueKept, SourcePart, EventsKept, IsEvent, IsWithin, accepted_into}
+use Rattle.source_laws.specs.Kept.{State, Kept, near, slots_of, QueueKept, SourcePart, EventsKept, IsEvent, IsWithin}
 use Rattle.source_laws.proofs.Queues.{queue_same, queue_push}
 use Rattle.source_laws.proofs.Sources.{source_push_own, source_tail}
-use Rattle.source_laws.proofs.Counts.{accepted_more}
+use Rattle.source_laws.proofs.Counts.{unsettled_one}
 use Rattle.source_laws.proofs.Nears.{near_is, source_as, other_tail, other_push}
 use Rattle.source_laws.proofs.Frames.{queue_part, events_part, slots_become}
 
@@ -31,7 +31,7 @@ kept_tail board x y i tail row word model rows up stands knows h = record {
         (queue_same stands (λ n. word.elsewhere (places.Slot (board.queue_of i) n) (λ e. cc)) word.here (queue (board.queue_of i)))
     | inr other ↦ queue_part board x y t (λ n. word.elsewhere (places.Slot t n) (λ e. cc)) (tail_other t other) (queue t) (h.queues t)
   ];
-  events = λ t. events_part board x y t (queue t) (λ j _. ap (λ (z : Source). z.accepted) (source j)) (h.events t);
+  events = λ t. events_part board x y t (queue t) (λ j. omega (arith, ap (λ (z : Source). z.next) (source j))) (h.events t);
   sources = λ j. elim (cases_eq j i) [
     | inl same ↦ subst (SourcePart board y) (sym same)
         (source_as {n = record (near board x i) { tail = tail }} (record { stands = source_tail (h.sources i).stands tail; ordered = (h.sources i).ordered; knows = knows })
@@ -75,7 +75,7 @@ kept_push board x y i row within w room at left ready word both rows knows h = r
   ];
   events = λ t. elim (cases_eq t t0) [
     | inl same ↦ subst (EventsKept board y.model.queue y.model.source) (sym same) pushed_events
-    | inr other ↦ events_part board x y t (both.queue.elsewhere t other) (λ j of. ap (λ (z : Source). z.accepted) (both.source.elsewhere j (λ f. other (sym of ∙ ap board.queue_of f)))) (h.events t)
+    | inr other ↦ events_part board x y t (both.queue.elsewhere t other) settled (h.events t)
   ];
   sources = λ j. elim (cases_eq j i) [
     | inl same ↦ subst (SourcePart board y) (sym same)
@@ -113,16 +113,22 @@ kept_push board x y i row within w room at left ready word both rows knows h = r
     queue_here : (t : ℕ) → t ≡ board.queue_of i → y.model.queue t ≡ with_event (x.model.queue t) (event_of board i (x.model.source i).accepted (x.model.source i).next)
     queue_here t same = subst (λ (u : ℕ). y.model.queue u ≡ with_event (x.model.queue u) (event_of board i (x.model.source i).accepted (x.model.source i).next)) (sym same) both.queue.here
 
+    settled : (j : ℕ) → (x.model.source j).next ≤ (y.model.source j).next
+    settled j = elim (cases_eq j i) [
+      | inl same ↦ subst (λ (k : ℕ). (x.model.source k).next ≤ (y.model.source k).next) (sym same) (omega (arith, ap (λ (z : Source). z.next) both.source.here))
+      | inr other ↦ omega (arith, ap (λ (z : Source). z.next) (both.source.elsewhere j other))
+    ]
+
     pushed_events : EventsKept board y.model.queue y.model.source (board.queue_of i)
     pushed_events =
         let len : length (q.held ++ e ∷ []) ≡ suc (length q.held) = omega (arith, length-append q.held (e ∷ [])) in
         let new : IsEvent board t0 e = record { source = within; queue = refl; count = omega arith; value = w.values i s.next } in
-        let more = accepted_more board x.model.source y.model.source i t0 board.shape.sources within refl (ap (λ (z : Source). z.accepted) both.source.here) (λ j other. ap (λ (z : Source). z.accepted) (both.source.elsewhere j other)) in
+        let less = unsettled_one board x.model.source y.model.source i t0 board.shape.sources within refl (ap (λ (z : Source). z.next) both.source.here) left settled in
         record {
           events = subst (λ (z : Queue). (k : ℕ) → k < length z.held → IsEvent board t0 (event_at z.held k)) (sym both.queue.here) (λ k lt.
               elim (cases_lt k (length q.held)) [
                 | inl before ↦ subst (IsEvent board t0) (sym (get_or_append_left q.held (e ∷ []) no_event k before)) ((h.events t0).events k before)
                 | inr last ↦ subst (IsEvent board t0) (sym (get_or_push q.held e no_event k (let same : length q.held ≡ k = omega arith in same))) new
               ]);
-          number = ap published both.queue.here ∙ (let n : q.released + length (q.held ++ e ∷ []) ≡ suc (accepted_into board x.model.source t0 board.shape.sources) = omega (arith, len, (h.events t0).number) in n) ∙ sym more;
+          positions = omega (arith, ap published both.queue.here, len, less, (h.events t0).positions);
         }

@@ -38,7 +38,7 @@ module _ (board : Board) (x y : State) (i : ℕ) (w : IsWithin board) (lt : i < 
   still row word model rows knows =
       kept_own board x y i (x.word (Src i)) (x.model.source i) row (unchanged (Src i) x.word y.word word)
       (record { queue = ap (λ (m : Model). m.queue) model; source = unchanged i x.model.source y.model.source (ap (λ (m : Model). m.source) model) })
-      rows refl (h.sources i).ordered (h.sources i).stands.stored knows h
+      rows refl (omega arith) (h.sources i).ordered (h.sources i).stands.stored knows h
 
   -- the tail's exchange from p to the next position, p being published
   moved : (p : ℕ) (row : Row) → MatchBool (x.word (Tail (board.queue_of i)) == p) (Becomes (Tail (board.queue_of i)) (p + 1) x.word y.word) (y.word ≡ x.word) → y.model ≡ x.model → Becomes i row x.row y.row
@@ -65,7 +65,7 @@ module _ (board : Board) (x y : State) (i : ℕ) (w : IsWithin board) (lt : i < 
           let found = own_refuse (own_of board x i w lt h) a k p knows e in (
             (omega (arith, knows.0.next, knows.1), found.1),
             kept_own board x y i (x.word (Src i)) (with_refused (x.model.source i)) (row_at a k StoreSkip) (unchanged (Src i) x.word y.word word) model
-                (subst (λ (r : Stage). Becomes i (row_at a k r) x.row y.row) found.0 rows) refl (record { accepted = (h.sources i).ordered.accepted; next = (h.sources i).ordered.next }) (h.sources i).stands.stored
+                (subst (λ (r : Stage). Becomes i (row_at a k r) x.row y.row) found.0 rows) refl (omega arith) (record { accepted = (h.sources i).ordered.accepted; next = (h.sources i).ordered.next }) (h.sources i).stands.stored
                 (record { word = knows.0.word; accepted = knows.0.accepted; next = knows.0.next }, refl, knows.1) h,
           )
       by_test false e model = (tt, still _ word model rows (own_slot (own_of board x i w lt h) a k p knows e))
@@ -105,7 +105,7 @@ module _ (board : Board) (x y : State) (i : ℕ) (w : IsWithin board) (lt : i < 
   step_at a k (HelpTail p) knows left word rows model = (tt, moved p (row_at a k LoadTail) word model rows knows.2 (λ tail. knows.0))
   step_at a k StoreSkip knows left word rows model = (
     knows.1,
-    kept_own board x y i (src_word a (k + 1)) (with_skipped (x.model.source i)) (row_at a (k + 1) LoadTail) word model rows refl
+    kept_own board x y i (src_word a (k + 1)) (with_skipped (x.model.source i)) (row_at a (k + 1) LoadTail) word model rows refl (omega arith)
         (record { accepted = omega (arith, (h.sources i).ordered.accepted); next = omega (arith, knows.0.next, knows.2) })
         (a, k + 1, refl, inl (knows.0.accepted, (let e : suc (x.model.source i).next ≡ k + 1 = omega (arith, knows.0.next) in e)))
         (record { word = refl; accepted = knows.0.accepted; next = omega (arith, knows.0.next) }) h,
@@ -113,7 +113,7 @@ module _ (board : Board) (x y : State) (i : ℕ) (w : IsWithin board) (lt : i < 
   step_at a k StoreAccepted knows left word rows model = (
     tt,
     kept_own board x y i (src_word (a + 1) (k + 1)) (x.model.source i) (row_at (a + 1) (k + 1) LoadTail) word
-        (record { queue = ap (λ (m : Model). m.queue) model; source = unchanged i x.model.source y.model.source (ap (λ (m : Model). m.source) model) }) rows refl (h.sources i).ordered
+        (record { queue = ap (λ (m : Model). m.queue) model; source = unchanged i x.model.source y.model.source (ap (λ (m : Model). m.source) model) }) rows refl (omega arith) (h.sources i).ordered
         (a + 1, k + 1, refl, inl (omega (arith, knows.accepted), omega (arith, knows.next))) (record { word = refl; accepted = omega (arith, knows.accepted); next = omega (arith, knows.next) }) h,
   )
 

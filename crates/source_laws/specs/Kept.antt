@@ -1,10 +1,11 @@
 -- What every access of every source, every release and every cut keeps.
-use Rattle.std.specs.Prelude.{◌≡◌, ℕ, zero, suc, ◌+◌, ◌^◌, ◌<◌, ◌≤◌, ◌==◌, length, slice_index, if◌then◌else◌}
+use Rattle.std.specs.Prelude.{◌≡◌, ℕ, zero, suc, ◌+◌, ◌-◌, ◌^◌, ◌<◌, ◌≤◌, ◌==◌, length, slice_index, if◌then◌else◌}
 use Rattle.source_laws.specs.QueueEvent.{QueueEvent}
 use Rattle.fram_words.specs.Places.{Place, Tail, Ack, Src}
 use Rattle.fram_words.specs.Places as places
 use Rattle.source_laws.specs.Model.{places_of, places_for, Board, Queue, Source, Near, Model, published}
 use Rattle.source_laws.specs.Stands.{StandsQueue, StandsSource, Tells, event_at}
+use Rattle.push_core.specs.Table.{greatest_tail}
 use Rattle.push_core.specs.declared.row.Row.{Row}
 use Rattle.source_laws.specs.Knows.{Knows}
 
@@ -22,10 +23,10 @@ pub record State : Type 0 where
   pub model : Model
   pub row : ℕ → Row
 
--- the number of events that the first n sources had accepted into queue t
-abbrev pub accepted_into : Board → (ℕ → Source) → ℕ → ℕ → ℕ
-accepted_into board source t zero = 0
-accepted_into board source t (suc n) = (if board.queue_of n == t then (source n).accepted else 0) + accepted_into board source t n
+-- the readings of the first n sources that aren't settled, where they are of queue t
+abbrev pub unsettled_into : Board → (ℕ → Source) → ℕ → ℕ → ℕ
+unsettled_into board source t zero = 0
+unsettled_into board source t (suc n) = (if board.queue_of n == t then length (board.readings n) - (source n).next else 0) + unsettled_into board source t n
 
 -- an event of queue t
 pub record IsEvent (board : Board) (t : ℕ) (e : QueueEvent) : Type 0 where
@@ -42,10 +43,10 @@ slots_of x t n = x.word (places.Slot t n)
 abbrev pub QueueKept : Board → State → ℕ → Type 0
 QueueKept board x t = StandsQueue (places_of board t) (slots_of x t) (x.word (Tail t)) (x.model.queue t)
 
--- its events are those that its sources had accepted
+-- its events are those of its sources, and each that it has, or may yet get, has a position
 pub record EventsKept (board : Board) (queue : ℕ → Queue) (source : ℕ → Source) (t : ℕ) : Type 0 where
   pub events : (k : ℕ) → k < length (queue t).held → IsEvent board t (event_at (queue t).held k)
-  pub number : published (queue t) ≡ accepted_into board source t board.shape.sources
+  pub positions : published (queue t) + unsettled_into board source t board.shape.sources ≤ greatest_tail
 
 -- readings are settled in order
 pub record IsOrdered (readings : ℕ) (s : Source) : Type 0 where

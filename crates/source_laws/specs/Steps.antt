@@ -6,10 +6,10 @@ use Rattle.source_laws.specs.Slots.{empty}
 use Rattle.fram_words.specs.Places.{Place, Tail, Ack, Src, IsShared}
 use Rattle.fram_words.specs.Places as places
 use Rattle.source_laws.specs.Model.{places_of, Board, Model, open_queue, open_source, Entry, Finish, Release, IsLegal, Follows}
-use Rattle.source_laws.specs.Stands.{event_at}
+use Rattle.source_laws.specs.Stands.{StandsSource, event_at}
 use Rattle.push_core.specs.Table.{IsLeft, first_row}
 use Rattle.source_laws.specs.Rows.{access, take, entry, found}
-use Rattle.source_laws.specs.Kept.{State}
+use Rattle.source_laws.specs.Kept.{State, QueueKept, EventsKept, IsOrdered, near}
 
 -- the entry, if there is one, may be made
 abbrev pub MayAdd : Board → Option Entry → Model → Type 0
@@ -56,7 +56,16 @@ pub record IsFirst (board : Board) (x : State) : Type 0 where
   pub sources : (i : ℕ) → x.model.source i ≡ open_source
   pub rows : (i : ℕ) → x.row i ≡ first_row
 
--- any order of accesses and cuts, from the first image on
+-- Words that stand for a model, as a run that was cut left them, and each source at its first row. The model may have accepted,
+-- released and settled any number before.
+pub record IsStart (board : Board) (x : State) : Type 0 where
+  pub queues : (t : ℕ) → QueueKept board x t
+  pub events : (t : ℕ) → EventsKept board x.model.queue x.model.source t
+  pub stands : (i : ℕ) → StandsSource i (near board x i)
+  pub ordered : (i : ℕ) → IsOrdered (length (board.readings i)) (x.model.source i)
+  pub rows : (i : ℕ) → x.row i ≡ first_row
+
+-- any order of accesses and cuts, from words that stand on
 pub record IsRun (board : Board) (at : ℕ → State) : Type 0 where
-  pub first : IsFirst board (at 0)
+  pub first : IsStart board (at 0)
   pub steps : (n : ℕ) → Step board (at n) (at (suc n))

@@ -120,15 +120,15 @@ finished_totals (origins.Source source count) y endings.Expired = refl
 finished_totals (origins.Pipe pipe item) y ending = refl
 finished_totals (origins.Timer timer deadline) y ending = refl
 
-pub total_fits : (x : Saved) (a : Assignment) (pick : Pick) (stamp : ℕ) (ending : Ending) (most : ℕ) → x.served + x.trapped + x.expired ≤ most →
-    total_of ending (finished_by pick.event.origin (rested (worked x a pick stamp))) ≤ most
-total_fits x a pick stamp ending most h =
+pub total_fits : (x : Saved) (a : Assignment) (pick : Pick) (stamp : ℕ) (ending : Ending) (most : ℕ) → x.served < most → x.trapped < most → x.expired < most →
+    total_of ending (finished_by pick.event.origin (rested (worked x a pick stamp))) < most
+total_fits x a pick stamp ending most served_fits trapped_fits expired_fits =
     rw (finished_totals pick.event.origin (rested (worked x a pick stamp)) ending) (by_ending ending)
   where
     keeps : Keeps x (begun pick x)
     keeps = begun-keeps pick x
 
-    by_ending : (ending : Ending) → total_of ending (rested (worked x a pick stamp)) ≤ most
+    by_ending : (ending : Ending) → total_of ending (rested (worked x a pick stamp)) < most
     by_ending (endings.Next task) = let served = keeps.served in omega arith
     by_ending endings.Done = let served = keeps.served in omega arith
     by_ending endings.Trapped = let trapped = keeps.trapped in omega arith

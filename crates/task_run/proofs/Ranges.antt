@@ -18,6 +18,7 @@ use Rattle.never_cut.specs.Entries.{Readings}
 use Rattle.never_cut.specs.Stands.{Saved, saved}
 use Rattle.never_cut.specs.Picked.{IsPicked}
 use Rattle.never_cut.specs.Steps.{Background}
+use Rattle.never_cut.specs.Within.{Lasts}
 use Rattle.never_cut.proofs.PickedEvents.{IsServable, picked_event}
 use Rattle.task_run.specs.declared.ending.Ending.{Ending}
 use Rattle.task_run.specs.declared.execution.Execution.{Execution}
@@ -38,12 +39,15 @@ use Rattle.task_run.proofs.Sendings.{taken_found}
 use Rattle.task_run.proofs.Limits.{execution_fits, position_fits, source_known, origin_fits, pipe_fits, timer_known, due_fits, period_fits, chain_fits, total_fits}
 
 module _ (program : Program) (readings : Readings) (words : Memory) (m : Model) (pick : Pick) (stamp : ℕ) (b : Buffer) (ending : Ending) (e : Execution)
-    (g : Background program readings words m) (few : m.commits + 1 < 2 ^ 32) where
+    (g : Background program readings words m) (few : Lasts 0 m) where
+  commits_fit : m.commits + 1 < 2 ^ 32
+  commits_fit = let r = few.commits in omega arith
+
   serving_fits : (phase : Phase) → Serving program words m (machine_at pick stamp b ending e phase) →
       FitsPhase program (machine_at pick stamp b ending e phase) phase → FitsTask program (machine_at pick stamp b ending e phase)
   serving_fits phase h fits = record {
     thread = h.picked.known;
-    stamp = rw h.stamp few;
+    stamp = rw h.stamp commits_fit;
     time = picked_time program readings words m pick g.sound h.picked;
     position = position_fits program readings words m pick.thread.0 pick.position g h.picked.known h.picked.position;
     phase = fits;
@@ -53,7 +57,7 @@ module _ (program : Program) (readings : Readings) (words : Memory) (m : Model) 
       FitsPhase program (machine_at pick stamp b ending e phase) phase → FitsTask program (machine_at pick stamp b ending e phase)
   releasing_fits phase i count h fits = record {
     thread = h.known;
-    stamp = let is : stamp + 1 ≡ m.commits = h.commits in omega arith;
+    stamp = let is : stamp + 1 ≡ m.commits = h.commits in let r = few.commits in omega arith;
     time = h.time;
     position = position_fits program readings words m pick.thread.0 pick.position g h.known h.position;
     phase = fits;
@@ -61,7 +65,7 @@ module _ (program : Program) (readings : Readings) (words : Memory) (m : Model) 
 
   -- the pick's event is one that its thread can serve
   servable : IsPicked program words m pick → IsServable program pick.thread.0 pick.event
-  servable p = picked_event program readings words m pick g.sound p (omega arith)
+  servable p = picked_event program readings words m pick g.sound p (λ q. let r = few.taken q in omega arith)
 
   own : IsPicked program words m pick → IsOwnTask program pick.thread.0 (task_at program m pick.thread.0)
   own p = own_task program readings m pick.thread.0 g.accepted g.sound p.known
@@ -86,11 +90,11 @@ module _ (program : Program) (readings : Readings) (words : Memory) (m : Model) 
   sending phase s h to = (executing phase h.y h.sends h.s h.o h.v h.picked to.executing.running, to.pipe)
 
   taken_fits : (q taken : ℕ) → q < length program.pipes → taken ≡ (pipe_of m q).taken → taken < 2 ^ 32
-  taken_fits q taken known is = let most : (pipe_of m q).taken ≤ m.commits = (g.sound.pipes q known).few in omega arith
+  taken_fits q taken known is = let r = few.taken q in omega arith
 
   written_fits : (q written : ℕ) → q < length program.pipes → written < (pipe_of m q).taken + (pipe_def program q).places → written < 2 ^ 33
   written_fits q written known room =
-      let most : (pipe_of m q).taken ≤ m.commits = (g.sound.pipes q known).few in
+      let r = few.taken q in
       let places : (pipe_def program q).places ≤ 64 = (g.accepted.pipes q known).places in
       omega arith
 
@@ -165,13 +169,17 @@ module _ (program : Program) (readings : Readings) (words : Memory) (m : Model) 
       in
       rw word (period_fits program readings m pick.thread.0 pick.event.origin pick.event.value g.sound h.progress.3 (servable h.picked))
 
-  -- a total is at most the number of commits
+  -- a total has room for one more
   total_small : Serving program words m (machine_at pick stamp b ending e ReadTotal) → working words pick.thread.0 b (total_word ending) + 1 < 2 ^ 64
   total_small h =
       let t : ℕ = pick.thread.0 in
-      let total : total_of ending h.y ≤ m.commits =
-      subst (λ z. total_of ending z ≤ m.commits) (sym h.progress.0.is)
-      (total_fits (saved program m t) (assignment program m pick) pick stamp ending m.commits (g.sound.threads t h.picked.known).totals)
+      let r = few.threads t in
+      let served : (saved program m t).served < 2 ^ 32 = let n = r.served in omega arith in
+      let trapped : (saved program m t).trapped < 2 ^ 32 = let n = r.trapped in omega arith in
+      let expired : (saved program m t).expired < 2 ^ 32 = let n = r.expired in omega arith in
+      let total : total_of ending h.y < 2 ^ 32 =
+      subst (λ z. total_of ending z < 2 ^ 32) (sym h.progress.0.is)
+      (total_fits (saved program m t) (assignment program m pick) pick stamp ending (2 ^ 32) served trapped expired)
       in
       let word : working words t b (total_word ending) ≡ total_of ending h.y = h.buffered.words (total_word ending) ∙ words-of_total ending h.y h.s h.o h.v in
       rw word (omega arith)

@@ -15,6 +15,7 @@ use Rattle.never_cut.specs.Journal.{moved}
 use Rattle.never_cut.specs.Actors.{SamePrivate, Follows, IsFinishing}
 use Rattle.never_cut.specs.Picked.{IsPicked}
 use Rattle.never_cut.specs.Steps.{Background, IsKept}
+use Rattle.never_cut.specs.Within.{Lasts}
 use Rattle.task_run.specs.declared.phase.Phase.{Phase}
 use Rattle.task_run.specs.declared.phase.Phase.TheVariants.{StoreCommit, StoreAck, StoreEmpty, Over}
 use Rattle.task_run.specs.declared.machine.TaskMachine.{TaskMachine}
@@ -87,8 +88,8 @@ pub record CanGoOn (program : Program) (words : Memory) (r : TaskMachine) : Type
   pub wants : FitsTask program r
   pub takes : FitsWord program r.phase (answer words (want program r))
 
--- as long as stamps fit their words, the registers are in the ranges that the machine asks for
+-- as long as the counts fit their words, the registers are in the ranges that the machine asks for
 abbrev pub EveryTaskFits : Type 0
 EveryTaskFits =
     (program : Program) (readings : Readings) (words : Memory) (m : Model) (r : TaskMachine) →
-    Background program readings words m → m.commits + 1 < 2 ^ 32 → Knows program words m r → is_over r.phase ≡ false → CanGoOn program words r
+    Background program readings words m → Lasts 0 m → Knows program words m r → is_over r.phase ≡ false → CanGoOn program words r

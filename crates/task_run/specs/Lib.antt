@@ -1,4 +1,3 @@
-pub mod Buffers
 pub mod Endings
 pub mod Machine
 pub mod Fits

@@ -2,9 +2,7 @@
 #![tactic(auto)]
 
 mod acting;
-mod buffer;
 mod code;
-mod copying;
 mod ending;
 mod execution;
 mod following;
@@ -22,7 +20,6 @@ mod test_board;
 mod tests;
 mod want;
 
-pub use buffer::Buffer;
 pub use code::read_code_back;
 pub use ending::Ending;
 pub use execution::Execution;

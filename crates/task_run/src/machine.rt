@@ -5,7 +5,6 @@ ghost use Rattle.ink_layout.specs.Addresses.{at_layout};
 ghost use Rattle.task_run.specs.Machine as machine;
 ghost use Rattle.task_run.specs.Fits.{FitsTask, FitsWord};
 
-use crate::buffer::Buffer;
 use crate::ending::Ending;
 use crate::execution::Execution;
 use crate::following::first_phase;
@@ -13,6 +12,7 @@ use crate::phase::Phase;
 use fram_words::Access;
 use ink_base::TaskId;
 use ink_layout::{KernelPoint, Pick, Plan, SlotAt};
+use thread_state::Buffer;
 
 /// The machine that serves one pick, by its registers: the pick, the kernel's stamp (the number of commits before this one), the
 /// registers of the thread's writes, how the task ends as far as is known, how far its run is, and the access that comes next.
@@ -53,7 +53,7 @@ impl TaskMachine {
         requires { FitsTask plan.now.accepted self.now }
         ensures { result ≡ at_layout plan.now.layout (machine.want plan.now.accepted self.now) }
     {
-        self.access(plan.program(), &plan.layout)
+        plan.access(self.wants(plan.program()))
     }
 
     /// Takes the word that the wanted access found, goes on to the next access, and answers what the access means to the never-cut kernel.

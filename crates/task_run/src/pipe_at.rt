@@ -2,57 +2,56 @@
 
 ghost use Rattle.std.specs.Prelude.{◌≡◌, ◌+◌, ◌<◌, ◌≤◌, length};
 ghost use Rattle.fram_words.specs.Places.{Commit, Ring};
+ghost use Rattle.fram_words.specs.Steps.{place_of};
 ghost use Rattle.event_pipe.specs.Ring.{ring_index};
-ghost use Rattle.thread_state.specs.Pages.{place_in};
+ghost use Rattle.thread_state.specs.Pages as pages;
 ghost use Rattle.prog_check.specs.Accepted.{IsAccepted};
 ghost use Rattle.prog_check.specs.Lookup.{pipe_def};
-ghost use Rattle.ink_layout.specs.Addresses.{layout_address, FitsLayout};
-ghost use Rattle.ink_layout.specs.Layouts.{IsLayout};
+ghost use Rattle.ink_layout.specs.Shape.{IsOnBoard};
 
-use crate::buffer::word_in;
 use event_pipe::ring_at;
-use fram_words::Layout;
-use ink_base::Addr;
+use fram_words::Place;
+use ink_base::PipeId;
 use task_isa::Program;
+use thread_state::place_in;
 
-// The address of the commit word of a pipe's reader.
-pub(crate) fn reader_at(program: &Program, layout: &Layout, pipe: u32) -> Addr
+// The commit word of a pipe's reader.
+pub(crate) fn reader_of(program: &Program, pipe: u32) -> Place
     requires accepted { IsAccepted program.now }
-    requires layout { FitsLayout program.now layout.now }
     requires known { pipe < length program.now.pipes }
-    ensures { result ≡ layout_address layout.now (Commit (pipe_def program.now pipe).reader.0) }
+    ensures place { place_of result ≡ Commit (pipe_def program.now pipe).reader.0 }
+    ensures there { IsOnBoard program.now (place_of result) }
 {
-    let reader = program.pipes.as_slice()[pipe as usize].reader.0 as usize;
-    layout.threads.as_slice()[reader].commit
+    Place::Commit {
+        thread: program.pipes.as_slice()[pipe as usize].reader,
+    }
 }
 
-// The address of the number of items that were taken from a pipe, in the copy of the reader's block that its commit word names.
-pub(crate) fn taken_at(program: &Program, layout: &Layout, pipe: u32, commit_word: u64) -> Addr
+// The number of items that were taken from a pipe, in the copy of the reader's block that its commit word names.
+pub(crate) fn taken_of(program: &Program, pipe: u32, commit_word: u64) -> Place
     requires accepted { IsAccepted program.now }
-    requires layout { FitsLayout program.now layout.now }
     requires known { pipe < length program.now.pipes }
-    ensures { result ≡ layout_address layout.now (place_in (pipe_def program.now pipe).reader.0 commit_word (18 + pipe)) }
+    ensures place { place_of result ≡ pages.place_in (pipe_def program.now pipe).reader.0 commit_word (18 + pipe) }
+    ensures there { IsOnBoard program.now (place_of result) }
 {
-    let reader = program.pipes.as_slice()[pipe as usize].reader.0 as usize;
-    word_in(
-        layout.threads.as_slice()[reader].first,
+    place_in(
+        program.pipes.as_slice()[pipe as usize].reader,
         commit_word,
         18 + pipe,
     )
 }
 
-// The address of the ring word of item number `count` of a pipe.
-pub(crate) fn item_at(program: &Program, layout: &Layout, pipe: u32, count: u64) -> Addr
+// The ring word of item number `count` of a pipe.
+pub(crate) fn item_of(program: &Program, pipe: u32, count: u64) -> Place
     requires accepted { IsAccepted program.now }
-    requires placed { IsLayout program.now layout.now }
     requires known { pipe < length program.now.pipes }
-    ensures { result ≡ layout_address layout.now (Ring pipe (ring_index (pipe_def program.now pipe).places count)) }
+    ensures place { place_of result ≡ Ring pipe (ring_index (pipe_def program.now pipe).places count) }
+    ensures there { IsOnBoard program.now (place_of result) }
 {
-    ring_at(
-        layout.rings.as_slice()[pipe as usize],
-        places_of(program, pipe),
-        count,
-    )
+    Place::Ring {
+        pipe: PipeId(pipe as u8),
+        index: ring_at(0, places_of(program, pipe), count),
+    }
 }
 
 // The number of places of a pipe.

@@ -29,7 +29,9 @@ impl TaskMachine {
         ensures { self.new ≡ machine.take program.now self.old word }
     {
         match self.page_copied(program) {
-            Some(page) => self.buffer.copied(page, word),
+            Some(page) => {
+                self.buffer.copied(page, word);
+            }
             None => self.follow(program, word),
         }
     }

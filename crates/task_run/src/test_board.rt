@@ -4,7 +4,6 @@ ghost use Rattle.std.specs.Prelude.{◌≡◌, IsTrue};
 ghost use Rattle.prog_check.specs.Lookup.{thread_def};
 ghost use Rattle.task_run.specs.Fits.{FitsChain, FitsExecution, FitsOrigin, FitsPhase, FitsSending, FitsSetting, FitsTask, FitsWord};
 
-use crate::buffer::word_in;
 use crate::execution::Execution;
 use crate::machine::TaskMachine;
 use crate::phase::Phase;
@@ -186,7 +185,10 @@ fn header(plan: &Plan, fram: &Fram, thread: usize, word: u32) -> Option<u64> {
     let place = plan.layout.threads.as_slice().get(thread)?;
     let mask = word_at(fram, place.commit)?;
     if word < 48 && place.first < 100000 {
-        word_at(fram, word_in(place.first, mask, word))
+        word_at(
+            fram,
+            place.first + 16 * (word / 8) + 8 * (mask >> (word / 8) & 1) as u32 + word % 8,
+        )
     } else {
         None
     }

@@ -1,15 +1,23 @@
 -- The masks of a block have a bit for each page.
-use Rattle.std.proofs.Common.{◌≡◌, ℕ, ◌*◌, ◌%◌, ◌^◌, ◌<◌, bit_or, arith}
+use Rattle.std.proofs.Common.{◌≡◌, ℕ, ◌*◌, ◌%◌, ◌^◌, ◌<◌, bit_or, arith, inl, inr}
+use Rattle.std.specs.Prelude.{Some, None, ◌==◌}
+use Rattle.std.proofs.lemmas.Bool.{cases_Bool}
 use Rattle.std.proofs.lemmas.Nat.{or_lt}
 use Rattle.std.proofs.Math.Pow.{pow-lt}
 use Rattle.thread_state.specs.declared.block.Block.{Block}
 use Rattle.thread_state.specs.Blocks.{IsPlaced, IsCommitWord, pages_of}
+use Rattle.thread_state.specs.Pages.{Buffer, Copying, Loading, Storing, after_copy}
+use Rattle.thread_state.specs.Writes.{IsKept}
 
-pub marked_allowed : (block : Block) (dirty page : ℕ) → IsPlaced block → IsCommitWord block dirty → page < pages_of block →
-    IsCommitWord block (bit_or dirty (1 * 2 ^ page % 2 ^ 64))
-marked_allowed block dirty page placed allowed within =
-    let below : 2 ^ page < 2 ^ pages_of block = pow-lt within in
-    let few : page < 64 = omega (arith, placed.state) in
-    let small : 2 ^ page < 2 ^ 64 = pow-lt few in
-    let same : 1 * 2 ^ page % 2 ^ 64 ≡ 2 ^ page = omega arith in
-    rw same (or_lt (pages_of block) dirty (2 ^ page) allowed below)
+marked_allowed : (block : Block) (dirty page : ℕ) → IsPlaced block → IsCommitWord block dirty → page < pages_of block →
+    IsCommitWord block (bit_or dirty (2 ^ page))
+marked_allowed block dirty page placed allowed within = or_lt (pages_of block) dirty (2 ^ page) allowed (pow-lt within)
+
+-- the registers of a block are such after an access of a copying, which is over or not
+pub copy_kept : (block : Block) (b : Buffer) (page : ℕ) (x : Copying) (word : ℕ) → IsKept block b (Some page) → IsKept block (after_copy b page x word) None
+copy_kept block b page (Loading k) word kept = record { placed = kept.placed; allowed = kept.allowed; pages = kept.pages; within = tt }
+copy_kept block b page (Storing k v) word kept =
+    elim (cases_Bool (k == 7)) [
+      | inl e ↦ rw e (record { placed = kept.placed; allowed = kept.allowed; pages = marked_allowed block b.dirty page kept.placed kept.pages kept.within; within = tt })
+      | inr e ↦ rw e (record { placed = kept.placed; allowed = kept.allowed; pages = kept.pages; within = tt })
+    ]

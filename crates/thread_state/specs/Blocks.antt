@@ -36,3 +36,9 @@ at_block block (Load p) = fram.Load (address_of block p)
 at_block block (Store p v) = fram.Store (address_of block p) v
 at_block block (Exchange p e v) = fram.Exchange (address_of block p) e v
 at_block block (Add p n) = fram.Add (address_of block p) n
+
+-- a word of the thread that the block has
+abbrev pub IsWithin : Block → Place → Type 0
+IsWithin block (Commit thread) = Unit {0}
+IsWithin block (Page thread page copy word) = (page < pages_of block) × (copy < 2) × (word < 8)
+IsWithin block _ = ⊥

@@ -1,4 +1,6 @@
 pub mod Pages
 pub mod Blocks
+pub mod Buffers
+pub mod Steps
 pub mod Writes
 pub mod Calls

@@ -1,10 +1,13 @@
 //! Where the words of a thread stand.
 
-ghost use Rattle.std.specs.Int.{bit_at};
-ghost use Rattle.std.specs.Prelude.{◌≡◌, ℕ, ◌+◌, ◌*◌, ◌/◌, ◌%◌, ◌<◌};
-ghost use Rattle.thread_state.specs.Blocks.{IsPlaced, IsCommitWord, address_in, pages_of};
+ghost use Rattle.std.specs.Prelude.{◌≡◌, ◌<◌};
+ghost use Rattle.fram_words.specs.Places.{place_of as place_made_to};
+ghost use Rattle.fram_words.specs.Steps.{access_of, place_of};
+ghost use Rattle.thread_state.specs.Blocks.{IsPlaced, IsCommitWord, IsWithin, address_in, address_of, at_block};
 
-use ink_base::Addr;
+use crate::buffer::place_in;
+use fram_words::{Access, Place, Step};
+use ink_base::{Addr, ThreadId};
 
 /// A thread's header and state: the address of its commit word, the address of the first word of its pages, and the number of words
 /// of one copy. A page has eight words, and two places, one after the other; bit `n` of the commit word names the committed place
@@ -23,25 +26,46 @@ pub fn committed_at(block: Block, commit_word: u64, word: u32) -> Addr
     requires within { word < block.words }
     ensures { result ≡ address_in block commit_word word }
 {
-    word_at(block, word / 8, copy_of(commit_word, word / 8), word % 8)
+    block.at(place_in(ThreadId(0), commit_word, word))
 }
 
-// The copy of a page that a mask names.
-pub(crate) fn copy_of(mask: u64, page: u32) -> u32
-    requires { page < 64 }
-    ensures named { result ≡ bit_at mask page }
-    ensures two { result < 2 }
-{
-    (mask >> page & 1) as u32
-}
+impl Block {
+    // The access to the address of its word.
+    pub(crate) fn access(self, step: Step) -> Access
+        requires placed { IsPlaced self }
+        requires within { IsWithin self (place_made_to (access_of step)) }
+        ensures { result ≡ at_block self (access_of step) }
+    {
+        match step {
+            Step::Load(place) => Access::Load(self.at(place)),
+            Step::Store(place, word) => Access::Store(self.at(place), word),
+            Step::Exchange { place, expect, new } => Access::Exchange {
+                addr: self.at(place),
+                expect,
+                new,
+            },
+            Step::Add { place, by } => Access::Add {
+                addr: self.at(place),
+                by,
+            },
+        }
+    }
 
-// The address of a word of a copy of a page.
-pub(crate) fn word_at(block: Block, page: u32, copy: u32, word: u32) -> Addr
-    requires placed { IsPlaced block }
-    requires page { page < pages_of block }
-    requires copy { copy < 2 }
-    requires word { word < 8 }
-    ensures { result ≡ block.first + 16 * page + 8 * copy + word }
-{
-    block.first + 16 * page + 8 * copy + word
+    // The address of a word of the thread.
+    fn at(self, place: Place) -> Addr
+        requires placed { IsPlaced self }
+        requires within { IsWithin self (place_of place) }
+        ensures { result ≡ address_of self (place_of place) }
+    {
+        match place {
+            Place::Commit { .. } => self.commit,
+            Place::Page {
+                page,
+                copy,
+                word,
+                ..
+            } => self.first + 16 * page + 8 * copy + word,
+            _ => 0,
+        }
+    }
 }

@@ -2,11 +2,13 @@
 #![tactic(auto)]
 
 mod block;
+mod buffer;
+mod copying;
 mod laws;
 mod machine;
-mod page_copy;
 
 pub use block::{Block, committed_at};
+pub use buffer::{Buffer, place_in};
 pub use laws::two_copies;
 pub use machine::BufferMachine;
 

@@ -5,35 +5,38 @@ ghost use Rattle.thread_state.specs.Blocks.{IsPlaced, IsCommitWord};
 ghost use Rattle.thread_state.specs.Pages.{working_mask};
 ghost use Rattle.thread_state.specs.Writes.{begun, IsAtRest, CanWrite, wanted, read_of, write_of, commit_of, taken, prepared, discarded};
 
-use crate::block::{Block, committed_at, copy_of, word_at};
-use crate::page_copy::PageCopy;
+use crate::block::Block;
+use crate::buffer::Buffer;
 use fram_words::Access;
+use ink_base::ThreadId;
 use std::marker::Model;
 
-/// The writes of one thread since its last commit. A write goes to the other copy of its page than the committed one; a page whose
-/// other copy is in use is dirty. Contracts see the block, the commit word, the set of dirty pages, and the page that is being copied.
+/// The writes of one thread since its last commit, at the addresses of its block. A write goes to the other copy of its page than the
+/// committed one; a page whose other copy is in use is dirty. Contracts see the block, the registers, and the page that is being copied.
 #[derive(Clone, Copy, Debug, PartialEq, Eq)]
 pub struct BufferMachine {
     block: Block,
-    commit: u64,
-    dirty: u64,
-    copy: Option<PageCopy>,
+    buffer: Buffer,
+    page: Option<u32>,
 }
 
 impl Model for BufferMachine {
-    ghost use Rattle.std.proofs.Common.{ap};
-    ghost use Rattle.thread_state.specs.Writes.{Writes, writes_of, copy_of, copy_of-copying_of, IsKept};
+    ghost use Rattle.std.specs.Prelude.{refl};
+    ghost use Rattle.thread_state.specs.Writes.{Writes, IsKept};
 
     ghost Value = { Writes };
 
-    ghost view = { λ m. writes_of m.block m.commit m.dirty m.copy };
+    ghost view = { λ m. record { block = m.block; buffer = m.buffer; under_way = m.page } };
 
-    ghost invariant = { λ m. IsKept m.block m.commit m.dirty m.copy };
+    ghost invariant = { λ m. IsKept m.block m.buffer m.page };
 
-    ghost inverse = { λ w. record { block = w.block; commit = w.buffer.commit; dirty = w.buffer.dirty; copy = copy_of w.buffer.copying w.under_way } };
+    ghost inverse = { λ w. record { block = w.block; buffer = w.buffer; page = w.under_way } };
 
-    ghost inverse_ok = { λ m is. ap (λ copy. record { block = m.block; commit = m.commit; dirty = m.dirty; copy = copy }) (copy_of-copying_of m.copy) };
+    ghost inverse_ok = { λ m is. refl };
 }
+
+// The thread of the block.
+const OWN: ThreadId = ThreadId(0);
 
 impl BufferMachine {
     /// A machine with no dirty page, at a block and its commit word.
@@ -44,9 +47,8 @@ impl BufferMachine {
     {
         BufferMachine {
             block,
-            commit: commit_word,
-            dirty: 0,
-            copy: None,
+            buffer: Buffer::begin(commit_word),
+            page: None,
         }
     }
 
@@ -55,15 +57,7 @@ impl BufferMachine {
         ensures access { result ≡ wanted self.now }
         ensures none { IsNone result ↔ IsAtRest self.now }
     {
-        let copy = self.copy?;
-        let named = copy_of(self.commit, copy.page);
-        Some(match copy.loaded {
-            None => Access::Load(word_at(self.block, copy.page, named, copy.word)),
-            Some(value) => Access::Store(
-                word_at(self.block, copy.page, 1 - named, copy.word),
-                value,
-            ),
-        })
+        Some(self.block.access(self.buffer.copy(OWN, self.page?)))
     }
 
     /// Goes on after the wanted access, which answered this word.
@@ -71,19 +65,10 @@ impl BufferMachine {
         requires { IsSome self.old.under_way }
         ensures { self.new ≡ taken self.old word }
     {
-        match self.copy {
-            None => {}
-            Some(copy) => match copy.loaded {
-                None => self.copy = Some(PageCopy {
-                    loaded: Some(word),
-                    ..copy
-                }),
-                Some(_) if copy.word < 7 => self.copy = Some(copy.next()),
-                Some(_) => {
-                    self.copy = None;
-                    self.dirty |= 1 << copy.page;
-                }
-            },
+        if let Some(page) = self.page {
+            if !self.buffer.copied(page, word) {
+                self.page = None;
+            }
         }
     }
 
@@ -95,12 +80,8 @@ impl BufferMachine {
         ensures { self.new ≡ prepared self.old (word / 8) }
     {
         let page = word / 8;
-        if copy_of(self.dirty, page) == 0 {
-            self.copy = Some(PageCopy {
-                page,
-                word: 0,
-                loaded: None,
-            });
+        if !self.buffer.is_dirty(page) {
+            self.page = Some(page);
         }
     }
 
@@ -109,7 +90,7 @@ impl BufferMachine {
         requires { word < self.now.block.words }
         ensures { IsTrue result ↔ CanWrite self.now word }
     {
-        copy_of(self.dirty, word / 8) == 1
+        self.buffer.is_dirty(word / 8)
     }
 
     /// The access that reads a word: the last that was written, else the committed one.
@@ -118,7 +99,7 @@ impl BufferMachine {
         requires rest { IsAtRest self.now }
         ensures { result ≡ read_of self.now word }
     {
-        Access::Load(committed_at(self.block, self.mask(), word))
+        self.block.access(self.buffer.get(OWN, word))
     }
 
     /// The access that writes a word, whose page is dirty.
@@ -128,7 +109,7 @@ impl BufferMachine {
         requires dirty { CanWrite self.now word }
         ensures { result ≡ write_of self.now word value }
     {
-        Access::Store(committed_at(self.block, self.mask(), word), value)
+        self.block.access(self.buffer.write(OWN, word, value))
     }
 
     /// Gives all writes up: no page is dirty.
@@ -136,7 +117,7 @@ impl BufferMachine {
         requires { IsAtRest self.old }
         ensures { self.new ≡ discarded self.old }
     {
-        self.dirty = 0;
+        self.buffer.discard();
     }
 
     /// The store that makes all writes current: it turns the bits of the dirty pages in the commit word.
@@ -145,15 +126,6 @@ impl BufferMachine {
         ensures access { result ≡ commit_of self.now }
         ensures allowed { IsCommitWord self.now.block (working_mask self.now.buffer) }
     {
-        Access::Store(self.block.commit, self.mask())
-    }
-
-    // The mask that names the working copy.
-    fn mask(&self) -> u64
-        ensures mask { result ≡ working_mask self.now.buffer }
-        ensures allowed { IsCommitWord self.now.block result }
-        ensures placed { IsPlaced self.now.block }
-    {
-        self.commit ^ self.dirty
+        self.block.access(self.buffer.commit(OWN))
     }
 }

@@ -1,17 +1,12 @@
 -- The dirty set gets a page of the block.
-use Rattle.std.proofs.Common.{subst}
-use Rattle.std.specs.Prelude.{Option}
-use Rattle.thread_state.specs.declared.page_copy.PageCopy.{PageCopy}
-use Rattle.thread_state.specs.Writes.{IsCopy}
-use Rattle.thread_state.proofs.Masks.{marked_allowed}
+use Rattle.std.proofs.Common.{subst, sym}
+use Rattle.std.specs.Prelude.{ℕ, Option, None}
+use Rattle.thread_state.specs.Pages.{Buffer}
+use Rattle.thread_state.specs.Writes.{IsKept}
+use Rattle.thread_state.proofs.Masks.{copy_kept}
 use Rattle.thread_state.proofs.machine.BufferMachine.take.Goals as goal
 
-pub invariant_of-self-in-Some-2 : goal.invariant_of-self-in-Some-2
-invariant_of-self-in-Some-2 c =
-    let within = subst (λ (copy : Option PageCopy). IsCopy c.self.inside.block copy) c.in-Some.is c.self.invariant.within in
-    record {
-      placed = c.self.invariant.placed;
-      allowed = c.self.invariant.allowed;
-      pages = marked_allowed _ _ _ c.self.invariant.placed c.self.invariant.pages within.0;
-      within = tt;
-    }
+pub invariant_of-self : goal.invariant_of-self
+invariant_of-self c =
+    let kept = subst (λ (page : Option ℕ). IsKept c.self.inside.block c.self.inside.buffer page) c.in-Some.is c.self.invariant in
+    subst (λ (b : Buffer). IsKept c.self.inside.block b None) (sym c.copied.ensures.registers) (copy_kept _ _ _ _ _ kept)

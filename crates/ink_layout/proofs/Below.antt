@@ -1,0 +1,20 @@
+-- Every word of the board has an address below 100,000.
+use Rattle.std.proofs.Common.{◌≡◌, ℕ, ◌<◌, arith}
+use Rattle.task_isa.specs.declared.program.Program.{Program}
+use Rattle.fram_words.specs.declared.layout.Layout.{Layout}
+use Rattle.fram_words.specs.Places.{Place}
+use Rattle.fram_words.specs.Shape.{address}
+use Rattle.prog_check.specs.Accepted.{IsAccepted}
+use Rattle.ink_layout.specs.Addresses.{layout_address}
+use Rattle.ink_layout.specs.Shape.{shape_of, words_of, IsOnBoard}
+use Rattle.ink_layout.specs.Layouts.{IsLayout}
+use Rattle.ink_layout.proofs.Regions.{below}
+use Rattle.ink_layout.proofs.Bounds.{few_words}
+
+pub address_below : (program : Program) (layout : Layout) (p : Place) → IsAccepted program → IsLayout program layout → IsOnBoard program p →
+    layout_address layout p < 100000
+address_below program layout p accepted is there =
+    let a : layout_address layout p ≡ address (shape_of program) p = is.addresses p there in
+    let b : address (shape_of program) p < words_of (shape_of program) = below program p there in
+    let c : words_of (shape_of program) < 100000 = few_words program accepted in
+    omega arith

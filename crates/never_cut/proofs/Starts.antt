@@ -1,0 +1,169 @@
+-- A state at which a run can begin has room for an entry, and keeps it; the state of the first image is one.
+use Rattle.std.proofs.Common.{◌≡◌, ℕ, ◌+◌, ◌-◌, ◌^◌, ◌<◌, ◌≤◌, true, false, List, [], ◌∷◌, length, get_or, Some, None, refl, sym, ap, ◌∙◌, subst, arith, inl, inr}
+use Rattle.std.specs.Prelude.{All}
+use Rattle.std.specs.Option.{ForSome}
+use Rattle.std.proofs.lemmas.Bool.{cases_lt}
+use Rattle.std.proofs.lemmas.List.{get_or_past}
+use Rattle.std.proofs.lemmas.List.Elements.{All-nil, All-cons}
+use Rattle.ink_base.specs.declared.event.Event.{Event}
+use Rattle.ink_base.specs.declared.event.Origin.{Origin}
+use Rattle.ink_base.specs.declared.event.Origin.TheVariants as origins
+use Rattle.ink_base.specs.declared.output.Output.{Output}
+use Rattle.ink_base.specs.declared.entry.Entry.{Entry}
+use Rattle.ink_base.specs.declared.entry.Entry.TheVariants.{Push, Refuse, Skip, Tick, Scan, Look, Commit, Release}
+use Rattle.task_isa.specs.declared.program.Program.{Program}
+use Rattle.prog_check.specs.Accepted.{IsAccepted}
+use Rattle.prog_check.specs.Lookup.{source_thread}
+use Rattle.never_cut.specs.declared.model.Model.{Model}
+use Rattle.never_cut.specs.declared.thread_model.ThreadModel.{ThreadModel}
+use Rattle.never_cut.specs.State.{thread_of, source_of, no_thread, no_source, open_model, with_thread}
+use Rattle.never_cut.specs.Commit.{is_of_queue}
+use Rattle.never_cut.specs.Entries.{Readings, readings_of, Legal, effect, fed_by, next_event, pushed, with_accepted, with_refused, with_skipped}
+use Rattle.never_cut.specs.Journal.{after, IsLegal}
+use Rattle.never_cut.specs.Sound.{IsSound, IsSoundSource, IsQueued}
+use Rattle.never_cut.specs.Start.{CanStart}
+use Rattle.never_cut.specs.Stands.{event_at}
+use Rattle.never_cut.specs.Within.{AreShort, HasRoom, IsWithinThread, IsWithinSource, Lasts, LastsThread, is_scanning}
+use Rattle.never_cut.proofs.Commits.{commit-sources}
+use Rattle.never_cut.proofs.Lasting.{lasts_step, open_lasts}
+use Rattle.never_cut.proofs.SoundSources.{sources_with, source_made, sources_same}
+use Rattle.never_cut.proofs.SoundStates.{open_sound, sound_after}
+use Rattle.never_cut.proofs.Stamped.{stamps_after}
+use Rattle.never_cut.proofs.Steps.{stays_within}
+
+-- the sources of a state
+abbrev pub SourcesSound : Program → Readings → Model → Type 0
+SourcesSound program readings m = (i : ℕ) → i < length program.sources → IsSoundSource readings m i
+
+-- an entry keeps the sources in order
+sources_step : (program : Program) (readings : Readings) (m : Model) (e : Entry) → length m.sources ≡ length program.sources → SourcesSound program readings m →
+    Legal program readings m e → SourcesSound program readings (effect program readings m e)
+sources_step program readings m (Push i) count h legal =
+    let known : i.0 < length m.sources = rw count legal.0 in
+    let fed : Model = with_thread m (source_thread program i.0) (pushed (next_event readings m i.0) (fed_by program m i.0)) in
+    let left = legal.1 in
+    sources_with readings fed i.0 (length program.sources) (with_accepted (source_of m i.0)) known (sources_same readings m fed (length program.sources) refl h)
+    (source_made readings fed i.0 (with_accepted (source_of m i.0)) known (omega (arith, (h i.0 legal.0).ordered)) (omega (arith, left)) (λ is. absurd (let clash : false ≡ true = is in cc)))
+sources_step program readings m (Refuse i) count h legal =
+    let known : i.0 < length m.sources = rw count legal.0 in
+    let s = h i.0 legal.0 in
+    sources_with readings m i.0 (length program.sources) (with_refused (source_of m i.0)) known h
+    (source_made readings m i.0 (with_refused (source_of m i.0)) known s.ordered s.within (λ _. legal.1))
+sources_step program readings m (Skip i) count h legal =
+    let known : i.0 < length m.sources = rw count legal.0 in
+    let s = h i.0 legal.0 in
+    let left = s.refused legal.1 in
+    sources_with readings m i.0 (length program.sources) (with_skipped (source_of m i.0)) known h
+    (source_made readings m i.0 (with_skipped (source_of m i.0)) known (omega (arith, s.ordered)) (omega arith) (λ e. absurd (let clash : false ≡ true = e in cc)))
+sources_step program readings m (Tick by) count h legal = sources_same readings m (effect program readings m (Tick by)) (length program.sources) refl h
+sources_step program readings m Scan count h legal = sources_same readings m (effect program readings m Scan) (length program.sources) refl h
+sources_step program readings m (Look t) count h legal = sources_same readings m (effect program readings m (Look t)) (length program.sources) refl h
+sources_step program readings m (Commit t) count h legal = sources_same readings m (effect program readings m (Commit t)) (length program.sources) (commit-sources program t.0 m) h
+sources_step program readings m (Release t) count h legal = sources_same readings m (effect program readings m (Release t)) (length program.sources) refl h
+
+queued_is : (program : Program) (t value : ℕ) (o : Origin) → IsQueued program t (record { origin = o; value = value }) → is_of_queue (record { origin = o; value = value }) ≡ true
+queued_is program t value (origins.Source source count) h = refl
+queued_is program t value (origins.Pipe pipe item) h = absurd h
+queued_is program t value (origins.Timer timer deadline) h = absurd h
+
+all_queued : (program : Program) (t : ℕ) (held : List Event) → ((k : ℕ) → k < length held → IsQueued program t (event_at held k)) → All (λ e. is_of_queue e ≡ true) held
+all_queued program t [] h = All-nil (λ e. is_of_queue e ≡ true)
+all_queued program t (e ∷ held) h =
+    All-cons (λ e. is_of_queue e ≡ true) e held (queued_is program t e.value e.origin (h 0 (omega arith))) (all_queued program t held (λ k lt. h (Rattle.std.proofs.Common.suc k) (omega arith)))
+
+-- what sources may not pass
+source_within : (program : Program) (readings : Readings) (m : Model) (i : ℕ) → length m.sources ≡ length program.sources → ((j : ℕ) → length (readings_of readings j) ≤ 65535) →
+    SourcesSound program readings m → IsWithinSource (2 ^ 32 - 2) (source_of m i)
+source_within program readings m i count few h =
+    elim (cases_lt i (length program.sources)) [
+      | inl known ↦ let s = h i known in let a = s.ordered in let b = s.within in let c = few i in record { next = omega arith; accepted = omega arith }
+      | inr past ↦
+          subst (IsWithinSource (2 ^ 32 - 2)) (sym (get_or_past m.sources i no_source (rw count past))) (record { next = omega arith; accepted = omega arith })
+    ]
+
+-- the counts of a thread are below 2^32 - 1
+thread_within : (program : Program) (left : ℕ) (scanning : Rattle.std.proofs.Common.Bool) (x : ThreadModel) → LastsThread left scanning x → All (λ e. is_of_queue e ≡ true) x.held →
+    ForSome x.running (λ task. task.0 < length program.tasks) → IsWithinThread program (2 ^ 32 - 2) x
+thread_within program left scanning x h held running = record {
+  released = let r = h.ended in omega arith;
+  served = let r = h.served in omega arith;
+  trapped = let r = h.trapped in omega arith;
+  expired = let r = h.expired in omega arith;
+  held = held;
+  running = running;
+}
+
+-- a sound state whose counts have room has room for an entry
+pub room_at : (program : Program) (readings : Readings) (left : ℕ) (m : Model) → ((j : ℕ) → length (readings_of readings j) ≤ 65535) → IsSound program readings m → Lasts left m → HasRoom program m
+room_at program readings left m few sound lasts = record {
+  parts = record { threads = sound.shape.threads; pipes = sound.shape.pipes; timers = sound.shape.timers; sources = sound.shape.sources };
+  clock = sound.clock;
+  scan = λ scan is. let early = sound.scan scan is in let clock = sound.clock in omega arith;
+  commits = let r = lasts.commits in omega arith;
+  threads = λ t. elim (cases_lt t (length program.threads)) [
+    | inl known ↦
+        let x = sound.threads t known in
+        thread_within program left (is_scanning m) (thread_of m t) (lasts.threads t) (all_queued program t (thread_of m t).held x.queued) (λ task is. (x.chain task is).known)
+    | inr past ↦
+        let gone : thread_of m t ≡ no_thread = get_or_past m.threads t no_thread (rw sound.shape.threads past) in
+        subst (IsWithinThread program (2 ^ 32 - 2)) (sym gone)
+        (record {
+          released = omega arith;
+          served = omega arith;
+          trapped = omega arith;
+          expired = omega arith;
+          held = All-nil (λ e. is_of_queue e ≡ true);
+          running = λ task is. absurd (let clash : None ≡ Some task = is in cc);
+        })
+  ];
+  pipes = λ q. let r = lasts.taken q in omega arith;
+  sources = λ i. source_within program readings m i sound.shape.sources few sound.sources;
+}
+
+-- what a replay keeps from entry to entry: room for one, counts with room for so many, and the sources in order
+pub record GoesOn (program : Program) (readings : Readings) (left : ℕ) (m : Model) : Type 0 where
+  pub room : HasRoom program m
+  pub lasts : Lasts left m
+  pub sources : SourcesSound program readings m
+
+pub goes_on_step : (program : Program) (readings : Readings) (left : ℕ) (m : Model) (e : Entry) → IsAccepted program → ((j : ℕ) → length (readings_of readings j) ≤ 65535) →
+    GoesOn program readings (left + 1) m → Legal program readings m e → GoesOn program readings left (effect program readings m e)
+goes_on_step program readings left m e accepted few h legal =
+    let next : Model = effect program readings m e in
+    let w = stays_within program readings (2 ^ 32 - 2) m e accepted h.room legal in
+    let lasts = lasts_step program readings left m e h.lasts legal in
+    let sources = sources_step program readings m e h.room.parts.sources h.sources legal in
+    record {
+      room = record {
+        parts = w.parts;
+        clock = w.clock;
+        scan = w.scan;
+        commits = let r = lasts.commits in omega arith;
+        threads = λ t. let x = w.threads t in thread_within program left (is_scanning next) (thread_of next t) (lasts.threads t) x.held x.running;
+        pipes = λ q. let r = lasts.taken q in omega arith;
+        sources = λ i. source_within program readings next i w.parts.sources few sources;
+      };
+      lasts = lasts;
+      sources = sources;
+    }
+
+pub starts : (program : Program) (readings : Readings) (first : Model) → ((j : ℕ) → length (readings_of readings j) ≤ 65535) → CanStart program readings first →
+    GoesOn program readings (2 ^ 32 - 1) first
+starts program readings first few h = record { room = room_at program readings (2 ^ 32 - 1) first few h.sound h.counts; lasts = h.counts; sources = h.sound.sources }
+
+-- the state of the first image
+pub open_starts : (program : Program) (readings : Readings) → IsAccepted program → ((j : ℕ) → length (readings_of readings j) ≤ 65535) → CanStart program readings (open_model program)
+open_starts program readings accepted few = record {
+  sound = open_sound program readings accepted few;
+  stamps = record { below = All-nil (λ (o : Output). o.stamp ≤ 0); ordered = λ i j d le lt. absurd (omega arith) };
+  counts = open_lasts program (2 ^ 32 - 1) (omega arith);
+}
+
+-- where a legal journal has left its state with room in its counts, a run can begin again
+pub starts_again : (program : Program) (readings : Readings) (first : Model) (journal : List Entry) → IsAccepted program → AreShort readings → CanStart program readings first →
+    IsLegal program readings first journal → Lasts (2 ^ 32 - 1) (after program readings first journal) → CanStart program readings (after program readings first journal)
+starts_again program readings first journal accepted short start legal counts = record {
+  sound = sound_after program readings first journal accepted short start.sound legal;
+  stamps = stamps_after program readings first journal start.stamps legal;
+  counts = counts;
+}
