@@ -3,7 +3,7 @@
 use ink_base::{PipeId, SourceId, TaskId, ThreadId};
 
 /// One word of the board.
-#[derive(Clone, Copy, Debug, PartialEq, Eq)]
+#[derive(Clone, Copy)]
 pub enum Place {
     /// The code word at an offset of a task.
     Code {
@@ -47,7 +47,7 @@ pub enum Place {
 }
 
 /// An access to the word of a place.
-#[derive(Clone, Copy, Debug, PartialEq, Eq)]
+#[derive(Clone, Copy)]
 pub enum Step {
     Load(Place),
     Store(Place, u64),

@@ -18,6 +18,3 @@ pub use making::make_layout;
 pub use pick::Pick;
 pub use plan::Plan;
 pub use slot_at::SlotAt;
-
-#[cfg(test)]
-mod tests;
