@@ -1,16 +1,16 @@
 //! What the machines of the kernel speak of: where a program's words stand, its first image, and what a step and a scan tell.
 #![tactic(auto)]
 
-mod door;
+mod addresses;
 mod image;
 mod kernel_point;
 mod making;
 mod pick;
 mod plan;
 mod slot_at;
+mod slots;
 mod starts;
 
-pub use door::slot_of;
 pub use fram_words::{Layout, QueuePlace, ThreadPlace};
 pub use image::first_image;
 pub use kernel_point::KernelPoint;
@@ -18,3 +18,10 @@ pub use making::make_layout;
 pub use pick::Pick;
 pub use plan::Plan;
 pub use slot_at::SlotAt;
+<<<<<<< HEAD
+=======
+pub use slots::slot_of;
+
+#[cfg(test)]
+mod tests;
+>>>>>>> bfbdcf7ae62024181e9baade2de1efc7e4ca8df8
