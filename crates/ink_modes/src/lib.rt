@@ -8,8 +8,6 @@ mod complaint;
 mod finish;
 mod making;
 mod report;
-#[cfg(test)]
-mod tests;
 mod top;
 mod words;
 
