@@ -1,8 +1,0 @@
-//! How far the copying of a page is.
-
-/// The next word of the page to load, or one that was loaded and is to be stored.
-#[derive(Clone, Copy, Debug, PartialEq, Eq)]
-pub(crate) enum Copying {
-    Loading { word: u32 },
-    Storing { word: u32, value: u64 },
-}
