@@ -8,7 +8,7 @@ use crate::command::{Command, Shown};
 use ink_base::checks::number_said;
 
 /// A word that names what is done.
-#[derive(Clone, Copy, Debug, PartialEq, Eq)]
+#[derive(Clone, Copy)]
 pub enum Mode {
     Run,
     Soak,
@@ -33,7 +33,7 @@ impl Mode {
 }
 
 /// The number that a job is generated from, as far as the words have told it.
-#[derive(Clone, Copy, Debug, PartialEq, Eq)]
+#[derive(Clone, Copy)]
 pub enum Seed {
     /// No word was `--seed`.
     Unasked,
@@ -43,7 +43,7 @@ pub enum Seed {
 }
 
 /// What the words so far have asked for.
-#[derive(Clone, Copy, Debug, PartialEq, Eq)]
+#[derive(Clone, Copy)]
 pub struct Asked {
     pub mode: Option<Mode>,
     pub journal: bool,

@@ -6,7 +6,7 @@ ghost use Rattle.ink_modes.specs.Words as words;
 use ink_report::Flags;
 
 /// What the words of the command line ask for.
-#[derive(Clone, Copy, Debug, PartialEq, Eq)]
+#[derive(Clone, Copy, PartialEq, Eq)]
 pub enum Command {
     /// `run`: the board of the job on the source is run, and the text of the run is written.
     Run(Shown),
@@ -18,7 +18,7 @@ pub enum Command {
 }
 
 /// What the text of a run shows: the journal behind the rest, and the summary as a line of JSON in place of words.
-#[derive(Clone, Copy, Debug, PartialEq, Eq)]
+#[derive(Clone, Copy, PartialEq, Eq)]
 pub struct Shown {
     pub journal: bool,
     pub json: bool,
