@@ -5,6 +5,7 @@ use Rattle.fram_words.specs.declared.place.Place.TheVariants as words
 use Rattle.fram_words.specs.declared.place.Step as declared
 use Rattle.fram_words.specs.declared.place.Step.TheVariants as steps
 
+-- the place, with the numbers of its task, thread, pipe or source
 abbrev pub place_of : declared_place.Place → places.Place
 place_of (words.Code task offset) = places.Code task.0 offset
 place_of (words.Commit thread) = places.Commit thread.0
@@ -17,6 +18,7 @@ place_of (words.Ack source) = places.Ack source.0
 place_of words.Clock = places.Clock
 place_of (words.Src source) = places.Src source.0
 
+-- the access to it
 abbrev pub access_of : declared.Step → places.Access
 access_of (steps.Load p) = places.Load (place_of p)
 access_of (steps.Store p v) = places.Store (place_of p) v

@@ -11,6 +11,7 @@ use Rattle.ink_layout.specs.Layouts.{IsLayout}
 use Rattle.ink_layout.proofs.Regions.{below}
 use Rattle.ink_layout.proofs.Bounds.{few_words}
 
+-- a place on the board has an address below 100,000
 pub address_below : (program : Program) (layout : Layout) (p : Place) → IsAccepted program → IsLayout program layout → IsOnBoard program p →
     layout_address layout p < 100000
 address_below program layout p accepted is there =

@@ -8,12 +8,9 @@ use Rattle.fram_words.specs.Places.{Place, Code, Commit, Page, Log, Ring, Tail, 
 use Rattle.fram_words.specs.Shape.{regions, region, offset, words_before, address}
 use Rattle.std.proofs.lemmas.List.{length-map}
 use Rattle.ink_layout.specs.Shape.{task_words, shape_of, words_of, IsOnBoard}
-use Rattle.ink_layout.specs.Addresses.{layout_address, FitsLayout}
+use Rattle.ink_layout.specs.Addresses.{layout_address}
 use Rattle.ink_layout.specs.Layouts.{IsLayout, AreStarts, IsMadeOf, sources_from}
-use Rattle.ink_layout.proofs.Regions.{rest, in_rest, regions_count, region_number, region_is, region_there, below}
-use Rattle.ink_layout.proofs.Bounds.{few_words}
-use Rattle.prog_check.specs.Lookup.{thread_def, task_def}
-use Rattle.prog_check.specs.Accepted.{IsAccepted}
+use Rattle.ink_layout.proofs.Regions.{rest, in_rest, regions_count, region_number, region_is, region_there}
 use Rattle.fram_words.proofs.Addresses.{before_next}
 
 module _ (program : Program) (starts : List ℕ) (layout : Layout) (s : AreStarts (regions (shape_of program)) starts) (made : IsMadeOf program starts layout) where
@@ -91,34 +88,3 @@ module _ (program : Program) (starts : List ℕ) (layout : Layout) (s : AreStart
         blocks = λ t lt. ap (λ (p : ThreadPlace). p.words) (made.threads.each t lt);
         places = λ t lt. ap (λ (p : QueuePlace). p.places) (made.queues.each t lt);
       }
-
--- a program's words are few, so that none stands at or behind address 2 ^ 32
-pub fits_layout : (program : Program) (layout : Layout) → IsAccepted program → IsLayout program layout → FitsLayout program layout
-fits_layout program layout accepted is =
-    record {
-      tasks = is.tasks;
-      threads = is.threads;
-      queues = is.queues;
-      code = λ x lt.
-          let task = accepted.tasks x lt in
-          let last = at (Code x (length (task_def program x).code - 1)) (lt, omega (arith, task.code)) in
-          omega (arith, last, task.code);
-      fits = λ t lt.
-          let thread = accepted.threads t lt in
-          let page = at (Page t (5 + ((thread_def program t).state + 7) / 8) 1 7) (lt, omega arith, omega arith, omega arith) in
-          let log = at (Log t ((thread_def program t).log - 1)) (lt, omega (arith, thread.log_least)) in
-          let slot = at (Slot t ((thread_def program t).queue - 1)) (lt, omega (arith, thread.queue_least)) in
-          record {
-            pages = omega (arith, page);
-            log = omega (arith, log, thread.log_least);
-            slots = omega (arith, slot, thread.queue_least);
-          };
-      acks = let clock = at Clock tt in omega (arith, clock, is.acks);
-    }
-  where
-    at : (p : Place) → IsOnBoard program p → layout_address layout p < 100000
-    at p h =
-        let a : layout_address layout p ≡ address (shape_of program) p = is.addresses p h in
-        let b : address (shape_of program) p < words_of (shape_of program) = below program p h in
-        let c : words_of (shape_of program) < 100000 = few_words program accepted in
-        omega arith

@@ -1,14 +1,11 @@
 -- The addresses that a layout gives to the places of a board.
-use Rattle.std.specs.Prelude.{◌≡◌, ℕ, ◌+◌, ◌*◌, ◌/◌, ◌^◌, ◌<◌, ◌≤◌, length, slice_index, slice_index_or}
+use Rattle.std.specs.Prelude.{ℕ, ◌+◌, ◌*◌, slice_index, slice_index_or}
 use Rattle.fram_words.specs.declared.access.Access as declared
 use Rattle.fram_words.specs.declared.access.Access.TheVariants as fram
 use Rattle.fram_words.specs.declared.layout.Layout.{Layout}
 use Rattle.fram_words.specs.declared.layout.ThreadPlace.{ThreadPlace}
 use Rattle.fram_words.specs.declared.layout.QueuePlace.{QueuePlace}
 use Rattle.fram_words.specs.Places.{Place, Code, Commit, Page, Log, Ring, Tail, Slot, Ack, Clock, Src, Access, Load, Store, Exchange, Add}
-use Rattle.task_isa.specs.declared.program.Program.{Program}
-use Rattle.task_isa.specs.declared.program.ThreadDef.{ThreadDef}
-use Rattle.prog_check.specs.Lookup.{thread_def, task_def}
 
 -- what stands for the words of a thread or a queue that isn't there
 abbrev pub no_thread_place : ThreadPlace
@@ -42,18 +39,3 @@ at_layout layout (Load p) = fram.Load (layout_address layout p)
 at_layout layout (Store p v) = fram.Store (layout_address layout p) v
 at_layout layout (Exchange p e v) = fram.Exchange (layout_address layout p) e v
 at_layout layout (Add p n) = fram.Add (layout_address layout p) n
-
--- no word of the thread, or of its queue's slots, stands at or behind address 2 ^ 32
-pub record FitsThread (def : ThreadDef) (place : ThreadPlace) (queue : QueuePlace) : Type 0 where
-  pub pages : place.first + 16 * ((48 + def.state + 7) / 8) ≤ 2 ^ 32
-  pub log : place.log + def.log ≤ 2 ^ 32
-  pub slots : queue.slots + def.queue ≤ 2 ^ 32
-
--- a layout has the parts of the program, and all their addresses are below 2 ^ 32
-pub record FitsLayout (program : Program) (layout : Layout) : Type 0 where
-  pub tasks : length layout.tasks ≡ length program.tasks
-  pub threads : length layout.threads ≡ length program.threads
-  pub queues : length layout.queues ≡ length program.threads
-  pub code : (x : ℕ) → x < length program.tasks → slice_index layout.tasks x + length (task_def program x).code ≤ 2 ^ 32
-  pub fits : (t : ℕ) → t < length program.threads → FitsThread (thread_def program t) (thread_place layout t) (queue_place layout t)
-  pub acks : layout.acks + length program.sources ≤ 2 ^ 32

@@ -1,5 +1,6 @@
 pub mod Points
 pub mod Shape
+pub mod Slots
 pub mod Addresses
 pub mod Layouts
 pub mod Image

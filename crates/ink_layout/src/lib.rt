@@ -1,16 +1,16 @@
 //! What the machines of the kernel speak of: where a program's words stand, its first image, and what a step and a scan tell.
 #![tactic(auto)]
 
-mod door;
+mod addresses;
 mod image;
 mod kernel_point;
 mod making;
 mod pick;
 mod plan;
 mod slot_at;
+mod slots;
 mod starts;
 
-pub use door::slot_of;
 pub use fram_words::{Layout, QueuePlace, ThreadPlace};
 pub use image::first_image;
 pub use kernel_point::KernelPoint;
@@ -18,6 +18,7 @@ pub use making::make_layout;
 pub use pick::Pick;
 pub use plan::Plan;
 pub use slot_at::SlotAt;
+pub use slots::slot_of;
 
 #[cfg(test)]
 mod tests;

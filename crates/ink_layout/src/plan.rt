@@ -20,7 +20,6 @@ pub struct Plan {
 impl Plan {
     ghost use Rattle.std.specs.Prelude.{◌≡◌, IfOk};
     ghost use Rattle.prog_check.specs.Accepted.{IsAccepted};
-    ghost use Rattle.ink_layout.specs.Addresses.{FitsLayout};
     ghost use Rattle.ink_layout.specs.Layouts.{IsLayout};
 
     /// The plan of a program, with the layout that `make_layout` gives.
@@ -36,7 +35,6 @@ impl Plan {
         ensures same { result.now ≡ self.now.accepted }
         ensures accepted { IsAccepted self.now.accepted }
         ensures layout { IsLayout self.now.accepted self.now.layout }
-        ensures fits { FitsLayout self.now.accepted self.now.layout }
     {
         self.accepted.program()
     }

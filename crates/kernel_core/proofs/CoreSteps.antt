@@ -82,11 +82,11 @@ module _ (job : JobParts) (l : Layout) (b : Board) (room : ℕ) (ps : List Pushe
   pub stands : BoardStands (setup_of job) b
   stands = board_stands (setup_of job) (length job.charges) b h.is_setup h.holds
 
-  commits_room : 0 < room → Lasts 0 (state (setup_of job) b)
-  commits_room some = lasts_less (room + turns_from job b.begun) 0 (state (setup_of job) b) (omega arith) h.range.counts
+  counts_room : 0 < room → Lasts 0 (state (setup_of job) b)
+  counts_room some = lasts_less (room + turns_from job b.begun) 0 (state (setup_of job) b) (omega arith) h.range.counts
 
   on_board : 0 < room → IsOnBoard job.program (place_of (wants job.program b.kernel))
-  on_board some = kernel_on (setup_of job) (memory (setup_of job) b) (state (setup_of job) b) b.kernel h.is_setup (background_of (setup_of job) (length job.charges) b h.is_setup h.holds) (commits_room some) h.holds.registers
+  on_board some = kernel_on (setup_of job) (memory (setup_of job) b) (state (setup_of job) b) b.kernel h.is_setup (background_of (setup_of job) (length job.charges) b h.is_setup h.holds) (counts_room some) h.holds.registers
 
   pub access_is : 0 < room → at_layout l (wants job.program b.kernel) ≡ kernel_access (setup_of job) b
   access_is some = same_access job.program l (wants job.program b.kernel) h.layout_is (on_board some)
@@ -102,9 +102,9 @@ module _ (job : JobParts) (l : Layout) (b : Board) (room : ℕ) (ps : List Pushe
       by_kernel (kernels.Boot boot) r bg =
           let in_range = boot_in_range job.program job.readings (memory (setup_of job) b) (state (setup_of job) b) boot bg r.0 in (in_range.row, (in_range.row, in_range.word))
       by_kernel (kernels.Scan stamp scan) r bg =
-          let in_range = scan_in_range job.program job.readings (memory (setup_of job) b) (state (setup_of job) b) scan bg (commits_room some) r.1 in (in_range.row, (in_range.row, in_range.word))
+          let in_range = scan_in_range job.program job.readings (memory (setup_of job) b) (state (setup_of job) b) scan bg (counts_room some) r.1 in (in_range.row, (in_range.row, in_range.word))
       by_kernel (kernels.Task machine) r bg =
-          let can = every_task_fits job.program job.readings (memory (setup_of job) b) (state (setup_of job) b) machine bg (commits_room some) r.0 r.1 in (can.wants, (can.wants, can.takes))
+          let can = every_task_fits job.program job.readings (memory (setup_of job) b) (state (setup_of job) b) machine bg (counts_room some) r.0 r.1 in (can.wants, (can.wants, can.takes))
 
   pub can_want : 0 < room → CanWant job.program b.kernel
   can_want some = (ranges some b.kernel refl).0
@@ -117,7 +117,7 @@ module _ (job : JobParts) (l : Layout) (b : Board) (room : ℕ) (ps : List Pushe
   pub adds_nothing : (a : Access) → 0 < room → a ≡ at_layout l (wants job.program b.kernel) → FitsWords b.words a
   adds_nothing a some is =
       let bg = background_of (setup_of job) (length job.charges) b h.is_setup h.holds in
-      let step = kernel_steps (setup_of job) (memory (setup_of job) b) (state (setup_of job) b) (Rattle.kernel_core.specs.Board.row_of b) b.kernel h.is_setup bg (commits_room some) h.holds.registers in
+      let step = kernel_steps (setup_of job) (memory (setup_of job) b) (state (setup_of job) b) (Rattle.kernel_core.specs.Board.row_of b) b.kernel h.is_setup bg (counts_room some) h.holds.registers in
       subst (λ z. FitsWords b.words z) (sym (is ∙ access_is some)) (allowed_fits (setup_of job) b.words (state (setup_of job) b) (wants job.program b.kernel) (memory (setup_of job) b) step.kept.allowed)
 
   pub can_take : (a : Access) (w : ℕ) → 0 < room → a ≡ at_layout l (wants job.program b.kernel) → w ≡ slice_index b.words (address_of a) → CanTake job.program b.kernel w
@@ -216,7 +216,7 @@ module _ (job : JobParts) (l : Layout) (b : Board) (room : ℕ) (ps : List Pushe
       IsCore job l (After words k x) (room - 1) ps (set records (b.begun - 1) x)
   kernel_turn_core a w words k o x begun some is found made taken noted counts spare =
       core_after (After words k x) (kernel_turn (setup_of job) b) ps x (kernel_turn_is a w some is found words k o x made taken noted counts)
-      (kernel_goes (setup_of job) (length job.charges) b h.is_setup h.holds begun (commits_room some)) h.rows refl refl h.machines begun some
+      (kernel_goes (setup_of job) (length job.charges) b h.is_setup h.holds begun (counts_room some)) h.rows refl refl h.machines begun some
       (subst (λ z. CanCount (room - 1) z) (sym counts) (let c = h.records_are.counts in record { kernel = let e = c.kernel in omega arith; sources = λ i. let e = c.sources i in omega arith; ticks = let e = c.ticks in omega arith }))
       spare (ap (λ (z : ChargeRecord). length z.source_steps) counts)
 

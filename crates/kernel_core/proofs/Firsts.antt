@@ -21,13 +21,15 @@ use Rattle.never_cut.specs.State.{no_thread, no_source, open_model, open_thread,
 use Rattle.never_cut.proofs.FirstImages.{false_second, nothing_at, first_private}
 use Rattle.never_cut.specs.declared.model.Model.{Model}
 use Rattle.never_cut.specs.Stands.{StandsPrivate}
-use Rattle.never_cut.proofs.Lasting.{lasts_less}
+use Rattle.never_cut.specs.Start.{CanStart}
+use Rattle.never_cut.proofs.Lasting.{lasts_less, open_lasts}
+use Rattle.never_cut.proofs.Starts.{open_starts}
 use Rattle.reboot.proofs.Boots.{boot_begins}
 use Rattle.kernel_core.specs.Record.{ChargeRecord, not_begun, charge_of}
 use Rattle.kernel_core.specs.Board.{Setup, Board, shape, sides, row_of, moved_by, first_board}
 use Rattle.kernel_core.specs.Views.{queue_in, source_in, seen}
 use Rattle.kernel_core.specs.Holds.{IsSetup, StandsFirst, memory, HasSize, Holds}
-use Rattle.kernel_core.specs.Moves.{turns, EveryPrefixStands}
+use Rattle.kernel_core.specs.Moves.{ticks, turns, IsInRange, EveryPrefixStands, ImagePrefixesStand}
 use Rattle.kernel_core.proofs.Sides.{places_same, within, shared_of}
 use Rattle.kernel_core.proofs.Cuts.{first_rows}
 use Rattle.kernel_core.proofs.Runs.{moves_hold, moves_taken, ticks_taken, turns_taken}
@@ -109,8 +111,8 @@ first_stands s words g is image = record {
 }
 
 first_size : (s : Setup) (words : List ℕ) (charges : ℕ) → StandsFirst s words → HasSize s charges (first_board s words charges)
-first_size s words charges image = record {
-  words = image.count;
+first_size s words charges stands = record {
+  words = stands.count;
   rows = length-replicate (length s.program.sources) first_row;
   charges_count = length-replicate charges (not_begun (length s.program.sources));
   begun = omega arith;
@@ -124,37 +126,50 @@ first_size s words charges image = record {
     ]
 
 pub first_holds : (s : Setup) (words : List ℕ) (charges : ℕ) → IsSetup s → StandsFirst s words → Holds s charges (first_board s words charges)
-first_holds s words charges g image =
+first_holds s words charges g stands =
     let x : State = seen (memory s (first_board s words charges)) s.first (row_of (first_board s words charges)) in
     let begins : IsStart (sides s) x = record {
-      queues = image.sources.queues;
-      events = image.sources.events;
-      stands = image.sources.stands;
-      ordered = image.sources.ordered;
+      queues = stands.sources.queues;
+      events = stands.sources.events;
+      stands = stands.sources.stands;
+      ordered = stands.sources.ordered;
       rows = λ i. first_rows (length s.program.sources) i;
     } in
     let kept = kept_start (sides s) x begins in
     let sound = g.start.sound in
     record {
-      size = first_size s words charges image;
+      size = first_size s words charges stands;
       legal = tt;
-      private = image.private;
-      clock = image.clock;
+      private = stands.private;
+      clock = stands.clock;
       kept = kept;
       registers = (
         boot_begins s.program s.readings (memory s (first_board s words charges)) s.first
-            (record { accepted = g.accepted; private = image.private; shared = shared_of s (memory s (first_board s words charges)) s.first (row_of (first_board s words charges)) g sound kept image.clock; sound = sound }),
+            (record { accepted = g.accepted; private = stands.private; shared = shared_of s (memory s (first_board s words charges)) s.first (row_of (first_board s words charges)) g sound kept stands.clock; sound = sound }),
         refl,
       );
     }
 
 -- after every move of every list
 pub every_prefix : EveryPrefixStands
-every_prefix s words charges moves g image are range n =
+every_prefix s words charges moves g stands are range n =
     let board : Board = first_board s words charges in
     board_stands s charges (moved_by s board (take n moves)) g
-    (moves_hold s charges board (take n moves) g (first_holds s words charges g image) (moves_taken s charges 0 n moves are)
+    (moves_hold s charges board (take n moves) g (first_holds s words charges g stands) (moves_taken s charges 0 n moves are)
     (record {
       clock = let few = ticks_taken n moves in let c = range.clock in omega arith;
       counts = lasts_less (turns moves) (turns (take n moves)) s.first (turns_taken n moves) range.counts;
     }))
+
+-- from the first image on, too
+pub image_prefixes : ImagePrefixesStand
+image_prefixes s words charges moves b are short few n =
+    let g : IsSetup s = record {
+      accepted = b.accepted;
+      code = b.code;
+      short = b.short;
+      start = subst (λ m. CanStart s.program s.readings m) (sym b.first) (open_starts s.program s.readings b.accepted b.short.few);
+    } in
+    let range : IsInRange s.first (ticks moves) (turns moves) = subst (λ m. IsInRange m (ticks moves) (turns moves)) (sym b.first)
+    (record { clock = omega arith; counts = open_lasts s.program (turns moves) (omega arith) }) in
+    every_prefix s words charges moves g (first_stands s words g b.first b.image) are range n

@@ -87,12 +87,13 @@ goes_on s count b next o cost h size journal_is legal private clock kept registe
       counts = λ left lasts. subst (λ (z : Model). Lasts left z) (sym m) (noted_lasts s (state s b) o left legal lasts);
     }
 
--- a commit leaves the clock
-abbrev Ranges : Model → Model → Type 0
-Ranges m next = next.clock ≡ m.clock
+-- the clock is as it was
+abbrev KeepsClock : Model → Model → Type 0
+KeepsClock m next = next.clock ≡ m.clock
 
-commit_ranges : (s : Setup) (m : Model) (t : ℕ) → Ranges m (commit s.program t m)
-commit_ranges s m t = by_scan m.scan
+-- a commit leaves the clock
+commit_clock : (s : Setup) (m : Model) (t : ℕ) → KeepsClock m (commit s.program t m)
+commit_clock s m t = by_scan m.scan
   where
     running_clock : (r : Bool) (e : Event) → (consumed r e m).clock ≡ m.clock
     running_clock true e = refl
@@ -103,20 +104,21 @@ commit_ranges s m t = by_scan m.scan
     either true e time = refl
     either false e time = running_clock (Rattle.never_cut.specs.State.is_running (thread_of m t)) e
 
-    by_pending : (scan : ScanModel) (q : Option Event) → Ranges m (elim q [ None ↦ m | Some e ↦ committed s.program t e scan.time m ])
+    by_pending : (scan : ScanModel) (q : Option Event) → KeepsClock m (elim q [ None ↦ m | Some e ↦ committed s.program t e scan.time m ])
     by_pending scan None = refl
     by_pending scan (Some e) = either (is_expired s.program m t scan.time) e scan.time
 
-    by_scan : (o : Option ScanModel) → Ranges m (elim o [ None ↦ m | Some scan ↦ elim (pending s.program m t) [ None ↦ m | Some e ↦ committed s.program t e scan.time m ] ])
+    by_scan : (o : Option ScanModel) → KeepsClock m (elim o [ None ↦ m | Some scan ↦ elim (pending s.program m t) [ None ↦ m | Some e ↦ committed s.program t e scan.time m ] ])
     by_scan None = refl
     by_scan (Some scan) = by_pending scan (pending s.program m t)
 
-point_ranges : (s : Setup) (m : Model) (p : KernelPoint) → Ranges m (moved s.program s.readings m (entry_of_point p))
-point_ranges s m points.Nothing = refl
-point_ranges s m points.Scan = refl
-point_ranges s m (points.Look t) = refl
-point_ranges s m (points.Commit t) = commit_ranges s m t.0
-point_ranges s m (points.Release t) = refl
+-- and so does each entry of the kernel
+kernel_clock : (s : Setup) (m : Model) (p : KernelPoint) → KeepsClock m (moved s.program s.readings m (entry_of_point p))
+kernel_clock s m points.Nothing = refl
+kernel_clock s m points.Scan = refl
+kernel_clock s m (points.Look t) = refl
+kernel_clock s m (points.Commit t) = commit_clock s m t.0
+kernel_clock s m (points.Release t) = refl
 
 -- the kernel's turn where its access finds this word
 abbrev turned : Setup → Board → ℕ → Board
@@ -143,7 +145,7 @@ kernel_goes s count b g h some room =
     let p : KernelPoint = point_found s.program b.kernel (answer (memory s b) (wants s.program b.kernel)) in
     let o : Option Entry = entry_of_point (point_found s.program b.kernel (answer (memory s b) (wants s.program b.kernel))) in
     let next : Model = moved s.program s.readings (state s b) (entry_of_point (point_found s.program b.kernel (answer (memory s b) (wants s.program b.kernel)))) in
-    let range = point_ranges s (state s b) (point_found s.program b.kernel (answer (memory s b) (wants s.program b.kernel))) in
+    let same_clock = kernel_clock s (state s b) (point_found s.program b.kernel (answer (memory s b) (wants s.program b.kernel))) in
     subst (λ (v : ℕ). Goes s count b (turned s b v) 1) (sym (finds_there (shape s) b.words (wants s.program b.kernel) there))
     (goes_on s count b (turned s b word) o 1 h
     (record {
@@ -160,7 +162,7 @@ kernel_goes s count b g h some room =
     (subst (λ (n : Memory). Kept (sides s) (seen n next (row_of b))) (sym words)
     (kept_step (sides s) (seen (memory s b) (state s b) (row_of b)) (seen (perform (memory s b) (wants s.program b.kernel)) next (row_of b)) (within s g) h.kept step.step))
     (subst (λ (n : Memory). KernelHolds s.program n next (takes s.program b.kernel word)) (sym words) step.holds)
-    (omega (arith, range)))
+    (omega (arith, same_clock)))
 
 -- the source's turn where its access finds this word
 abbrev source_turned : Setup → Board → ℕ → Access → ℕ → Board

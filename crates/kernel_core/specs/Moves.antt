@@ -1,10 +1,14 @@
--- Which cuts and turns a board can make, and what they take of the clock's and the stamps' range.
-use Rattle.std.specs.Prelude.{ℕ, ◌+◌, ◌^◌, ◌<◌, List, [], ◌∷◌, length, take}
+-- Which cuts and turns a board can make, and what they take of the clock's and the counts' range.
+use Rattle.std.specs.Prelude.{◌≡◌, ℕ, ◌+◌, ◌^◌, ◌<◌, List, [], ◌∷◌, length, take}
 use Rattle.ink_base.specs.declared.actor.Actor.{Actor}
 use Rattle.ink_base.specs.declared.actor.Actor.TheVariants as actors
+use Rattle.prog_check.specs.Accepted.{IsAccepted}
+use Rattle.ink_layout.specs.Image.{IsFirstImage}
 use Rattle.never_cut.specs.declared.model.Model.{Model}
+use Rattle.never_cut.specs.State.{open_model}
+use Rattle.never_cut.specs.Within.{AreShort, Lasts}
+use Rattle.task_run.specs.Knows.{HasCode}
 use Rattle.kernel_core.specs.Board.{Setup, Move, Cut, Turn, moved_by, first_board}
-use Rattle.never_cut.specs.Within.{Lasts}
 use Rattle.kernel_core.specs.Holds.{IsSetup, StandsFirst, BoardStands}
 
 -- an actor of the board
@@ -42,8 +46,23 @@ pub record IsInRange (m : Model) (ticks turns : ℕ) : Type 0 where
   pub clock : m.clock + ticks < 2 ^ 47
   pub counts : Lasts turns m
 
--- Whatever order of turns and cuts is listed: after each of them the journal so far is legal, and the words stand for the never-cut kernel after it.
+-- From any words that stand for a state at which a run can begin, and whatever order of turns and cuts is listed: after each of them the journal so far is
+-- legal, and the words stand for the never-cut kernel after it.
 abbrev pub EveryPrefixStands : Type 0
 EveryPrefixStands =
     (s : Setup) (words : List ℕ) (charges : ℕ) (moves : List Move) → IsSetup s → StandsFirst s words → AreMoves s charges 0 moves → IsInRange s.first (ticks moves) (turns moves) →
+    (n : ℕ) → BoardStands s (moved_by s (first_board s words charges) (take n moves))
+
+-- an accepted program whose code words read back as its instructions, readings within the limits, and the first image with its state
+pub record BeginsAtImage (s : Setup) (words : List ℕ) : Type 0 where
+  pub accepted : IsAccepted s.program
+  pub code : HasCode s.program
+  pub short : AreShort s.readings
+  pub first : s.first ≡ open_model s.program
+  pub image : IsFirstImage s.program words
+
+-- so it is from the first image on
+abbrev pub ImagePrefixesStand : Type 0
+ImagePrefixesStand =
+    (s : Setup) (words : List ℕ) (charges : ℕ) (moves : List Move) → BeginsAtImage s words → AreMoves s charges 0 moves → ticks moves < 2 ^ 47 → turns moves + 1 < 2 ^ 32 →
     (n : ℕ) → BoardStands s (moved_by s (first_board s words charges) (take n moves))

@@ -30,6 +30,7 @@ use Rattle.never_cut.proofs.Bounds.{each_after_set}
 use Rattle.never_cut.proofs.SoundParts.{taken_in}
 use Rattle.never_cut.proofs.SoundPipes.{sent_taken}
 
+-- a flag counts one at most
 flag_or : (a b : Bool) → flag (a || b) ≤ flag a + 1
 flag_or true b = omega arith
 flag_or false true = omega arith
@@ -54,11 +55,13 @@ raised left x y ended served trapped expired h = record {
   expired = let r = h.expired in omega arith;
 }
 
+-- so does the end of a task,
 after_thread : (left : ℕ) (x : ThreadModel) (e : Event) (outcome : Outcome) (state : List ℕ) → LastsThread (left + 1) true x → LastsThread left false (thread_after e outcome state x)
 after_thread left x e (outcomes.Next task) state h = raised left x _ (omega arith) (omega arith) (omega arith) (omega arith) h
 after_thread left x e outcomes.Done state h = let f = flag_or x.finished (is_of_queue e) in raised left x _ (omega arith) (omega arith) (omega arith) (omega arith) h
 after_thread left x e (outcomes.Trap code) state h = let f = flag_or x.finished (is_of_queue e) in raised left x _ (omega arith) (omega arith) (omega arith) (omega arith) h
 
+-- the end of a service,
 ended_thread : (left time : ℕ) (x : ThreadModel) (e : Event) (outcome : Outcome) (state : List ℕ) → LastsThread (left + 1) true x →
     LastsThread left false (thread_after e outcome state (with_first time x))
 ended_thread left time x e outcome state h = by_running (is_running x)
@@ -67,9 +70,11 @@ ended_thread left time x e outcome state h = by_running (is_running x)
     by_running true = after_thread left x e outcome state h
     by_running false = after_thread left (record x { first = time }) e outcome state (record { ended = h.ended; served = h.served; trapped = h.trapped; expired = h.expired })
 
+-- and that of an expired chain
 expired_thread : (left : ℕ) (x : ThreadModel) (e : Event) → LastsThread (left + 1) true x → LastsThread left false (expired_after e x)
 expired_thread left x e h = let f = flag_or x.finished (is_of_queue e) in raised left x _ (omega arith) (omega arith) (omega arith) (omega arith) h
 
+-- a release only moves a finished event to the released ones
 released_thread : (left : ℕ) (b : Bool) (x : ThreadModel) → x.finished ≡ true → LastsThread (left + 1) b x → LastsThread left b (released x)
 released_thread left b x is h = record {
   ended = let r = h.ended in let f : flag x.finished ≡ 1 = ap flag is in omega arith;
@@ -124,6 +129,7 @@ made_lasts left m next t x scanning over commits threads taken new h = record {
   taken = λ q. let r = h.taken q in let more = taken q in omega (arith, r, more, ap flag scanning, ap flag over);
 }
 
+-- a commit takes up the room of two entries in a count that it raises: that of the entry, and that of the scan
 commit_lasts : (program : Program) (left : ℕ) (m : Model) (t : ℕ) (e : Event) (time : ℕ) → is_scanning m ≡ true → Lasts (left + 1) m → Lasts left (committed program t e time m)
 commit_lasts program left m t e time scanning h = by_expired (is_expired program m t time)
   where
@@ -182,6 +188,7 @@ lasts_step program readings left m (Commit t) h legal = by_scan m.scan refl
 lasts_step program readings left m (Release t) h legal =
     thread_lasts left m _ t.0 (released (thread_of m t.0)) refl refl refl refl (released_thread left (is_scanning m) (thread_of m t.0) legal.1 (h.threads t.0)) h
 
+-- a thread with room for more has room for fewer
 fewer_thread : (left less : ℕ) (b : Bool) (x : ThreadModel) → less ≤ left → LastsThread left b x → LastsThread less b x
 fewer_thread left less b x le h = record {
   ended = let r = h.ended in omega arith;
@@ -198,6 +205,7 @@ lasts_less left less m le h = record {
   taken = λ q. let r = h.taken q in omega arith;
 }
 
+-- a thread of the first image counts nothing yet
 open_thread_lasts : (left : ℕ) (d : ThreadDef) → left < 2 ^ 33 - 2 → LastsThread left false (open_thread d)
 open_thread_lasts left d lt = record { ended = omega arith; served = omega arith; trapped = omega arith; expired = omega arith }
 

@@ -1,5 +1,6 @@
 pub mod Threads
 pub mod Privates
+pub mod Blocks
 pub mod Slots
 pub mod Queues
 pub mod Releases

@@ -139,9 +139,3 @@ pub stamps_by_commits : (program : Program) (readings : Readings) (first : Model
 stamps_by_commits program readings first journal stamps legal =
     let h = numbered_first program readings first journal stamps legal in
     record { commits = h.count; made = h.made; outputs = h.outputs; each = h.each; ordered = h.ordered }
-
--- a legal journal keeps the numbers in order
-pub stamps_after : (program : Program) (readings : Readings) (first : Model) (journal : List Entry) → HasStamps first → IsLegal program readings first journal →
-    HasStamps (after program readings first journal)
-stamps_after program readings first journal stamps legal =
-    let h = numbered_first program readings first journal stamps legal in record { below = h.below; ordered = h.ordered }

@@ -1,5 +1,5 @@
 -- A state at which a run can begin has room for an entry, and keeps it; the state of the first image is one.
-use Rattle.std.proofs.Common.{◌≡◌, ℕ, ◌+◌, ◌-◌, ◌^◌, ◌<◌, ◌≤◌, true, false, List, [], ◌∷◌, length, get_or, Some, None, refl, sym, ap, ◌∙◌, subst, arith, inl, inr}
+use Rattle.std.proofs.Common.{◌≡◌, ℕ, suc, ◌+◌, ◌-◌, ◌^◌, ◌<◌, ◌≤◌, Bool, true, false, List, [], ◌∷◌, length, get_or, Some, None, refl, sym, ap, ◌∙◌, subst, arith, inl, inr}
 use Rattle.std.specs.Prelude.{All}
 use Rattle.std.specs.Option.{ForSome}
 use Rattle.std.proofs.lemmas.Bool.{cases_lt}
@@ -19,16 +19,14 @@ use Rattle.never_cut.specs.declared.thread_model.ThreadModel.{ThreadModel}
 use Rattle.never_cut.specs.State.{thread_of, source_of, no_thread, no_source, open_model, with_thread}
 use Rattle.never_cut.specs.Commit.{is_of_queue}
 use Rattle.never_cut.specs.Entries.{Readings, readings_of, Legal, effect, fed_by, next_event, pushed, with_accepted, with_refused, with_skipped}
-use Rattle.never_cut.specs.Journal.{after, IsLegal}
 use Rattle.never_cut.specs.Sound.{IsSound, IsSoundSource, IsQueued}
 use Rattle.never_cut.specs.Start.{CanStart}
 use Rattle.never_cut.specs.Stands.{event_at}
-use Rattle.never_cut.specs.Within.{AreShort, HasRoom, IsWithinThread, IsWithinSource, Lasts, LastsThread, is_scanning}
+use Rattle.never_cut.specs.Within.{HasRoom, IsWithinThread, IsWithinSource, Lasts, LastsThread, is_scanning}
 use Rattle.never_cut.proofs.Commits.{commit-sources}
 use Rattle.never_cut.proofs.Lasting.{lasts_step, open_lasts}
 use Rattle.never_cut.proofs.SoundSources.{sources_with, source_made, sources_same}
-use Rattle.never_cut.proofs.SoundStates.{open_sound, sound_after}
-use Rattle.never_cut.proofs.Stamped.{stamps_after}
+use Rattle.never_cut.proofs.SoundStates.{open_sound}
 use Rattle.never_cut.proofs.Steps.{stays_within}
 
 -- the sources of a state
@@ -61,15 +59,17 @@ sources_step program readings m (Look t) count h legal = sources_same readings m
 sources_step program readings m (Commit t) count h legal = sources_same readings m (effect program readings m (Commit t)) (length program.sources) (commit-sources program t.0 m) h
 sources_step program readings m (Release t) count h legal = sources_same readings m (effect program readings m (Release t)) (length program.sources) refl h
 
+-- an event of a queue is one of a source
 queued_is : (program : Program) (t value : ℕ) (o : Origin) → IsQueued program t (record { origin = o; value = value }) → is_of_queue (record { origin = o; value = value }) ≡ true
 queued_is program t value (origins.Source source count) h = refl
 queued_is program t value (origins.Pipe pipe item) h = absurd h
 queued_is program t value (origins.Timer timer deadline) h = absurd h
 
+-- and so is each of a list of them
 all_queued : (program : Program) (t : ℕ) (held : List Event) → ((k : ℕ) → k < length held → IsQueued program t (event_at held k)) → All (λ e. is_of_queue e ≡ true) held
 all_queued program t [] h = All-nil (λ e. is_of_queue e ≡ true)
 all_queued program t (e ∷ held) h =
-    All-cons (λ e. is_of_queue e ≡ true) e held (queued_is program t e.value e.origin (h 0 (omega arith))) (all_queued program t held (λ k lt. h (Rattle.std.proofs.Common.suc k) (omega arith)))
+    All-cons (λ e. is_of_queue e ≡ true) e held (queued_is program t e.value e.origin (h 0 (omega arith))) (all_queued program t held (λ k lt. h (suc k) (omega arith)))
 
 -- what sources may not pass
 source_within : (program : Program) (readings : Readings) (m : Model) (i : ℕ) → length m.sources ≡ length program.sources → ((j : ℕ) → length (readings_of readings j) ≤ 65535) →
@@ -82,7 +82,7 @@ source_within program readings m i count few h =
     ]
 
 -- the counts of a thread are below 2^32 - 1
-thread_within : (program : Program) (left : ℕ) (scanning : Rattle.std.proofs.Common.Bool) (x : ThreadModel) → LastsThread left scanning x → All (λ e. is_of_queue e ≡ true) x.held →
+thread_within : (program : Program) (left : ℕ) (scanning : Bool) (x : ThreadModel) → LastsThread left scanning x → All (λ e. is_of_queue e ≡ true) x.held →
     ForSome x.running (λ task. task.0 < length program.tasks) → IsWithinThread program (2 ^ 32 - 2) x
 thread_within program left scanning x h held running = record {
   released = let r = h.ended in omega arith;
@@ -126,6 +126,7 @@ pub record GoesOn (program : Program) (readings : Readings) (left : ℕ) (m : Mo
   pub lasts : Lasts left m
   pub sources : SourcesSound program readings m
 
+-- a legal entry takes up the room of one, and keeps the rest
 pub goes_on_step : (program : Program) (readings : Readings) (left : ℕ) (m : Model) (e : Entry) → IsAccepted program → ((j : ℕ) → length (readings_of readings j) ≤ 65535) →
     GoesOn program readings (left + 1) m → Legal program readings m e → GoesOn program readings left (effect program readings m e)
 goes_on_step program readings left m e accepted few h legal =
@@ -147,6 +148,7 @@ goes_on_step program readings left m e accepted few h legal =
       sources = sources;
     }
 
+-- a state at which a run can begin has all of it
 pub starts : (program : Program) (readings : Readings) (first : Model) → ((j : ℕ) → length (readings_of readings j) ≤ 65535) → CanStart program readings first →
     GoesOn program readings (2 ^ 32 - 1) first
 starts program readings first few h = record { room = room_at program readings (2 ^ 32 - 1) first few h.sound h.counts; lasts = h.counts; sources = h.sound.sources }
@@ -157,13 +159,4 @@ open_starts program readings accepted few = record {
   sound = open_sound program readings accepted few;
   stamps = record { below = All-nil (λ (o : Output). o.stamp ≤ 0); ordered = λ i j d le lt. absurd (omega arith) };
   counts = open_lasts program (2 ^ 32 - 1) (omega arith);
-}
-
--- where a legal journal has left its state with room in its counts, a run can begin again
-pub starts_again : (program : Program) (readings : Readings) (first : Model) (journal : List Entry) → IsAccepted program → AreShort readings → CanStart program readings first →
-    IsLegal program readings first journal → Lasts (2 ^ 32 - 1) (after program readings first journal) → CanStart program readings (after program readings first journal)
-starts_again program readings first journal accepted short start legal counts = record {
-  sound = sound_after program readings first journal accepted short start.sound legal;
-  stamps = stamps_after program readings first journal start.stamps legal;
-  counts = counts;
 }

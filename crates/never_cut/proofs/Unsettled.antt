@@ -12,6 +12,7 @@ use Rattle.never_cut.specs.Sound.{unsettled_into}
 abbrev pub next_of : Model → ℕ → ℕ
 next_of m i = (source_of m i).next
 
+-- a source that has settled more has fewer left
 less_left : (b : Bool) (n next old : ℕ) → old ≤ next → cond b (n - next) 0 ≤ cond b (n - old) 0
 less_left true n next old h = omega arith
 less_left false n next old h = omega arith

@@ -15,6 +15,7 @@ pub record IsFirstIllegal (program : Program) (readings : Readings) (first : Mod
   pub before : IsLegal program readings first (take n entries)
   pub illegal : ¬ Legal program readings (after program readings first (take n entries)) (slice_index_or entries n Scan)
 
+-- the entry that the fault names, if it names one, is the first illegal one
 abbrev pub TellsIllegal : Program → Readings → Model → List Entry → ReplayFault → Type 0
 TellsIllegal program readings first entries (Illegal n) = IsFirstIllegal program readings first entries n
 TellsIllegal program readings first entries NoMemory = Unit {0}

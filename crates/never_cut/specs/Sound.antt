@@ -51,6 +51,7 @@ pub record IsChain (program : Program) (m : Model) (t task : ℕ) : Type 0 where
   pub served : IsServed program m t event
   pub unfinished : (thread_of m t).finished ≡ false
 
+-- a thread's queue has the events of its own sources, and it serves one event at a time
 pub record IsSoundThread (program : Program) (readings : Readings) (m : Model) (t : ℕ) : Type 0 where
   -- each event that its queue has had, or may yet get, has a position
   pub positions : published (thread_of m t) + unsettled_into program readings m t (length program.sources) ≤ greatest_tail
@@ -61,10 +62,12 @@ pub record IsSoundThread (program : Program) (readings : Readings) (m : Model) (
   pub outputs : length (outputs_of m t) ≤ (thread_def program t).log
   pub first : (thread_of m t).first ≤ m.clock
 
+-- a pipe holds no more items than it has places
 pub record IsSoundPipe (program : Program) (m : Model) (q : ℕ) : Type 0 where
   pub room : length (pipe_of m q).items ≤ (pipe_def program q).places
   pub values : (k : ℕ) → slice_index (pipe_of m q).items k < 2 ^ 32
 
+-- a timer's tick and period fit their words
 pub record IsSoundTimer (m : Model) (j : ℕ) : Type 0 where
   pub due : ForSome (timer_of m j).due (λ due. due < 2 ^ 48)
   pub period : (timer_of m j).period < 2 ^ 32
@@ -75,6 +78,7 @@ pub record IsSoundSource (readings : Readings) (m : Model) (i : ℕ) : Type 0 wh
   pub within : (source_of m i).next ≤ length (readings_of readings i)
   pub refused : (source_of m i).refused ≡ true → (source_of m i).next < length (readings_of readings i)
 
+-- every part is sound, and a scan goes on as it began
 pub record IsSound (program : Program) (readings : Readings) (m : Model) : Type 0 where
   pub shape : HasShape program m
   pub threads : (t : ℕ) → t < length program.threads → IsSoundThread program readings m t

@@ -44,7 +44,7 @@ pub fn replay(
     replay_on(alloc, state, program, readings, entries)
 }
 
-/// The state after these entries, from the given one on, at which a run can begin.
+// The state after these entries, from a first one on, at which a run can begin.
 fn replay_on(
     alloc: Global,
     first: Replaying,

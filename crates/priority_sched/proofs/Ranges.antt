@@ -16,7 +16,7 @@ use Rattle.never_cut.specs.Stands.{published, next_word, due_word}
 use Rattle.never_cut.specs.Sound.{IsSound, IsSoundPipe}
 use Rattle.never_cut.specs.Within.{Lasts}
 use Rattle.never_cut.specs.Steps.{Background}
-use Rattle.reboot.proofs.Blocks.{running_word}
+use Rattle.never_cut.proofs.Blocks.{running_word}
 use Rattle.priority_sched.specs.declared.chain.Chain.{Chain}
 use Rattle.priority_sched.specs.declared.idle.Waiting.{Waiting}
 use Rattle.priority_sched.specs.declared.scan_at.ScanAt.{ScanAt}

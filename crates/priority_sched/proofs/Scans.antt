@@ -16,7 +16,7 @@ use Rattle.never_cut.specs.Stands.{flag}
 use Rattle.never_cut.specs.Steps.{Background, IsKept}
 use Rattle.never_cut.specs.Within.{Lasts}
 use Rattle.never_cut.proofs.Scans.{with_scan, scan_private, scan_queues}
-use Rattle.reboot.proofs.Blocks.{running_word, finished_word}
+use Rattle.never_cut.proofs.Blocks.{running_word, finished_word}
 use Rattle.priority_sched.specs.declared.scan_at.ScanAt.{ScanAt}
 use Rattle.priority_sched.specs.declared.scan_at.ScanAt.TheVariants.{Clock, Commit, Running, Finished, Origin, Value, First, Slot, Taken, Writer, Written, Item, Timer, Picked, Quiet}
 use Rattle.priority_sched.specs.declared.machine.ScanMachine.{ScanMachine}

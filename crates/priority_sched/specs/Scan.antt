@@ -18,11 +18,11 @@ use Rattle.event_pipe.specs.Ring.{ring_index}
 use Rattle.event_pipe.specs.Ring as ring
 use Rattle.persist_timer.specs.Due as due
 use Rattle.prog_check.specs.Lookup.{thread_def, pipe_def, timer_def}
+use Rattle.ink_layout.specs.Slots.{slot_place}
 use Rattle.ink_layout.specs.declared.kernel_point.KernelPoint.{KernelPoint}
 use Rattle.ink_layout.specs.declared.kernel_point.KernelPoint.TheVariants as points
 use Rattle.ink_layout.specs.declared.slot_at.SlotAt.{SlotAt}
 use Rattle.never_cut.specs.Pending.{first_number}
-use Rattle.reboot.specs.Boot.{slot_place}
 use Rattle.priority_sched.specs.declared.chain.Chain.{Chain}
 use Rattle.priority_sched.specs.declared.idle.Idle.{Idle}
 use Rattle.priority_sched.specs.declared.idle.Waiting.{Waiting}

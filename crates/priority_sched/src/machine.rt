@@ -59,6 +59,7 @@ impl ScanMachine {
     }
 
     // The place of the access of the row.
+    #[inline(always)]
     fn place(&self, program: &Program) -> Place
         requires accepted { IsAccepted program.now }
         requires row { IsScan program.now self.now }

@@ -27,12 +27,12 @@ use Rattle.never_cut.specs.Steps.{Background, IsKept}
 use Rattle.never_cut.proofs.Privates.{private_stays, ack_blocks}
 use Rattle.never_cut.proofs.Slots.{readable, slot_of, first_slot, old_slot, ShowsOther}
 use Rattle.never_cut.proofs.Releases.{after_release, release_other, release_calm, release_private, release_queues}
+use Rattle.never_cut.proofs.Blocks.{finished_word}
 use Rattle.reboot.specs.declared.boot_at.BootAt.{BootAt}
 use Rattle.reboot.specs.declared.boot_at.BootAt.TheVariants.{Commit, Stamp, Finished, Slot, Ack, Empty, Over}
 use Rattle.reboot.specs.declared.machine.BootMachine.{BootMachine}
 use Rattle.reboot.specs.Boot.{boot_at, boot_begun, boot_next, after_slot}
 use Rattle.reboot.specs.Knows.{finished_events, IsCounted, BootHolds, BootStep}
-use Rattle.reboot.proofs.Blocks.{finished_word}
 
 -- what holds below a number and at it
 pub up_to : (P : ℕ → Type 0) (t : ℕ) → ((u : ℕ) → u < t → P u) → P t → (u : ℕ) → u ≤ t → P u

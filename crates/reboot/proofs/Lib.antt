@@ -1,4 +1,3 @@
-pub mod Blocks
 pub mod Boots
 pub mod Drifts
 pub mod Ends

@@ -19,13 +19,13 @@ use Rattle.never_cut.specs.Sound.{IsQueued}
 use Rattle.never_cut.specs.Actors.{IsFinishing}
 use Rattle.never_cut.specs.Steps.{Background}
 use Rattle.never_cut.proofs.Slots.{IsReadable, readable, slot_of, held_slot, free_slot}
+use Rattle.never_cut.proofs.Blocks.{finished_word}
 use Rattle.reboot.specs.declared.boot_at.BootAt.{BootAt}
 use Rattle.reboot.specs.declared.boot_at.BootAt.TheVariants.{Commit, Stamp, Finished, Slot, Ack, Empty, Over}
 use Rattle.reboot.specs.declared.machine.BootMachine.{BootMachine}
 use Rattle.reboot.specs.Boot.{boot_wants, IsBootRow, IsBootWord, IsOfSource}
 use Rattle.reboot.specs.Knows.{finished_events, BootKnows, BootHolds}
 use Rattle.reboot.specs.Laws.{IsInRange}
-use Rattle.reboot.proofs.Blocks.{finished_word}
 
 of_source : (program : Program) (t p : ℕ) (origin : Origin) (value : ℕ) → IsQueued program t (record { origin = origin; value = value }) →
     IsOfSource program (slot_of p (record { origin = origin; value = value }))

@@ -2,13 +2,14 @@
 use Rattle.std.specs.Prelude.{ℕ, ◌+◌, ◌-◌, ◌%◌, ◌^◌, ◌<◌, ◌==◌, nat_lt, max, length, if◌then◌else◌, Option, Some, None}
 use Rattle.ink_base.specs.declared.ids.ThreadId.{ThreadId}
 use Rattle.task_isa.specs.declared.program.Program.{Program}
-use Rattle.fram_words.specs.Places.{Place, Access, Load, Store}
+use Rattle.fram_words.specs.Places.{Access, Load, Store}
 use Rattle.fram_words.specs.Places as places
 use Rattle.thread_state.specs.Pages.{place_in}
 use Rattle.push_core.specs.Slots.{empty_word, slot_in}
 use Rattle.push_core.specs.declared.slot.Slot as slot
 use Rattle.push_core.specs.declared.slot.Slot.TheVariants as slots
 use Rattle.prog_check.specs.Lookup.{thread_def}
+use Rattle.ink_layout.specs.Slots.{slot_place}
 use Rattle.ink_layout.specs.declared.kernel_point.KernelPoint.{KernelPoint}
 use Rattle.ink_layout.specs.declared.kernel_point.KernelPoint.TheVariants as points
 use Rattle.ink_layout.specs.declared.slot_at.SlotAt.{SlotAt}
@@ -22,10 +23,6 @@ boot_at thread stamp at = record { thread = thread; stamp = stamp; at = at }
 -- the registers in which a boot begins
 abbrev pub boot_begun : BootMachine
 boot_begun = boot_at (record { 0 = 0 }) 0 Commit
-
--- the slot of a position in the queue of thread t
-abbrev pub slot_place : Program → (t position : ℕ) → Place
-slot_place program t position = places.Slot t (position % (thread_def program t).queue)
 
 -- the access of each row, for thread t; a boot that is over has none to make
 abbrev pub boot_wants : Program → (t : ℕ) → BootAt → Access

@@ -56,6 +56,7 @@ impl BootMachine {
     }
 
     // The access of the row, to its place.
+    #[inline(always)]
     fn wants(self, program: &Program) -> Step
         requires accepted { IsAccepted program.now }
         requires row { IsBoot program.now self }

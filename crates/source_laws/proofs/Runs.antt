@@ -41,9 +41,6 @@ kept_start board x h = record {
   sources = λ i. source_as (record { stands = h.stands i; ordered = h.ordered i; knows = (refl, refl) }) (λ k. near board x i) (h.rows i);
 }
 
-pub kept_first : (board : Board) (x : State) → IsWithin board → IsFirst board x → Kept board x
-kept_first board x w h = kept_start board x (start_first board x w h)
-
 -- at each moment of each run
 pub kept_run : (board : Board) (at : ℕ → State) → IsWithin board → IsRun board at → (n : ℕ) → Kept board (at n)
 kept_run board at w run zero = kept_start board (at zero) run.first

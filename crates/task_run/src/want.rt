@@ -25,6 +25,7 @@ use task_isa::Program;
 
 impl TaskMachine {
     /// The access of the phase, to its place.
+    #[inline(always)]
     pub(crate) fn wants(&self, program: &Program) -> Step
         requires accepted { IsAccepted program.now }
         requires fits { FitsTask program.now self.now }

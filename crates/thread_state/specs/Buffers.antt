@@ -4,10 +4,12 @@ use Rattle.thread_state.specs.declared.copying.Copying as declared
 use Rattle.thread_state.specs.declared.copying.Copying.TheVariants as copies
 use Rattle.thread_state.specs.Pages.{Copying, Loading, Storing}
 
+-- how far a copying is, as contracts see it
 abbrev pub copying_in : declared.Copying → Copying
 copying_in (copies.Loading k) = Loading k
 copying_in (copies.Storing k v) = Storing k v
 
+-- and back
 abbrev pub copying_out : Copying → declared.Copying
 copying_out (Loading k) = copies.Loading k
 copying_out (Storing k v) = copies.Storing k v

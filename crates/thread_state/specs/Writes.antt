@@ -18,6 +18,7 @@ abbrev pub IsCopied : Block → Option ℕ → Type 0
 IsCopied block None = Unit {0}
 IsCopied block (Some page) = page < pages_of block
 
+-- the block is placed, and its commit word, its dirty pages and the page that is copied are within it
 pub record IsKept (block : Block) (buffer : Buffer) (under_way : Option ℕ) : Type 0 where
   pub placed : IsPlaced block
   pub allowed : IsCommitWord block buffer.commit

@@ -1,7 +1,7 @@
 //! Where the words of a thread stand.
 
 ghost use Rattle.std.specs.Prelude.{◌≡◌, ◌<◌};
-ghost use Rattle.fram_words.specs.Places.{place_of as place_made_to};
+ghost use Rattle.fram_words.specs.Places as places;
 ghost use Rattle.fram_words.specs.Steps.{access_of, place_of};
 ghost use Rattle.thread_state.specs.Blocks.{IsPlaced, IsCommitWord, IsWithin, address_in, address_of, at_block};
 
@@ -26,33 +26,33 @@ pub fn committed_at(block: Block, commit_word: u64, word: u32) -> Addr
     requires within { word < block.words }
     ensures { result ≡ address_in block commit_word word }
 {
-    block.at(place_in(ThreadId(0), commit_word, word))
+    block.address(place_in(ThreadId(0), commit_word, word))
 }
 
 impl Block {
-    // The access to the address of its word.
+    // The access to the address of its place.
     pub(crate) fn access(self, step: Step) -> Access
         requires placed { IsPlaced self }
-        requires within { IsWithin self (place_made_to (access_of step)) }
+        requires within { IsWithin self (places.place_of (access_of step)) }
         ensures { result ≡ at_block self (access_of step) }
     {
         match step {
-            Step::Load(place) => Access::Load(self.at(place)),
-            Step::Store(place, word) => Access::Store(self.at(place), word),
+            Step::Load(place) => Access::Load(self.address(place)),
+            Step::Store(place, word) => Access::Store(self.address(place), word),
             Step::Exchange { place, expect, new } => Access::Exchange {
-                addr: self.at(place),
+                addr: self.address(place),
                 expect,
                 new,
             },
             Step::Add { place, by } => Access::Add {
-                addr: self.at(place),
+                addr: self.address(place),
                 by,
             },
         }
     }
 
-    // The address of a word of the thread.
-    fn at(self, place: Place) -> Addr
+    // The address of a place of the block's thread.
+    fn address(self, place: Place) -> Addr
         requires placed { IsPlaced self }
         requires within { IsWithin self (place_of place) }
         ensures { result ≡ address_of self (place_of place) }
@@ -65,7 +65,7 @@ impl Block {
                 word,
                 ..
             } => self.first + 16 * page + 8 * copy + word,
-            _ => 0,
+            _ => unreachable!(),
         }
     }
 }

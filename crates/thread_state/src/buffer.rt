@@ -65,6 +65,7 @@ impl Buffer {
     }
 
     /// The next access of a write to a word of the thread's block: of the copying of its page first, where the page isn't dirty.
+    #[inline(always)]
     pub fn put(&self, thread: ThreadId, word: u32, value: u64) -> Step
         requires { word < 512 }
         ensures access { access_of result ≡ pages.put_access thread.0 self.now word value }

@@ -11,6 +11,9 @@ use fram_words::Access;
 use ink_base::ThreadId;
 use std::marker::Model;
 
+// The block's own thread. A block has the words of one thread alone, so that any number names it.
+const OWN: ThreadId = ThreadId(0);
+
 /// The writes of one thread since its last commit, at the addresses of its block. A write goes to the other copy of its page than the
 /// committed one; a page whose other copy is in use is dirty. Contracts see the block, the registers, and the page that is being copied.
 #[derive(Clone, Copy, Debug, PartialEq, Eq)]
@@ -34,9 +37,6 @@ impl Model for BufferMachine {
 
     ghost inverse_ok = { λ m is. refl };
 }
-
-// The thread of the block.
-const OWN: ThreadId = ThreadId(0);
 
 impl BufferMachine {
     /// A machine with no dirty page, at a block and its commit word.

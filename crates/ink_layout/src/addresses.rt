@@ -1,20 +1,18 @@
-//! The door from places to addresses.
+//! The addresses of the places of a board.
 
-ghost use Rattle.std.specs.Prelude.{◌≡◌, ◌%◌, ◌<◌, length};
+ghost use Rattle.std.specs.Prelude.{◌≡◌};
 ghost use Rattle.fram_words.specs.Places as places;
 ghost use Rattle.fram_words.specs.Steps.{access_of, place_of};
-ghost use Rattle.prog_check.specs.Accepted.{IsAccepted};
-ghost use Rattle.prog_check.specs.Lookup.{thread_def};
 ghost use Rattle.ink_layout.specs.Addresses.{at_layout, layout_address};
 ghost use Rattle.ink_layout.specs.Shape.{IsOnBoard};
 
 use crate::plan::Plan;
 use fram_words::{Access, Place, Step};
-use ink_base::{Addr, ThreadId};
-use task_isa::Program;
+use ink_base::Addr;
 
 impl Plan {
-    /// The access to the address that the layout gives the place.
+    /// The access to the address that the layout gives to the place of the step, which is one of the program's board.
+    #[inline(always)]
     pub fn access(&self, step: Step) -> Access
         requires { IsOnBoard self.now.accepted (places.place_of (access_of step)) }
         ensures { result ≡ at_layout self.now.layout (access_of step) }
@@ -34,12 +32,14 @@ impl Plan {
         }
     }
 
-    /// The address of a place of the plan's board.
+    /// The address that the layout gives to a place of the program's board.
+    #[inline(always)]
     #[tactic(auto, using(crate::proofs::Below::address_below))]
     pub fn address(&self, place: Place) -> Addr
         requires { IsOnBoard self.now.accepted (place_of place) }
         ensures { result ≡ layout_address self.now.layout (place_of place) }
     {
+        // The program is accepted, and the layout is its own.
         let _program = self.program();
         let layout = &self.layout;
         match place {
@@ -61,18 +61,5 @@ impl Plan {
             Place::Clock => layout.clock,
             Place::Src { source } => layout.srcs + source.0 as u32,
         }
-    }
-}
-
-/// The slot of a position, in a thread's queue.
-pub fn slot_of(program: &Program, thread: ThreadId, position: u32) -> Place
-    requires accepted { IsAccepted program.now }
-    requires known { thread.0 < length program.now.threads }
-    ensures place { place_of result ≡ places.Slot thread.0 (position % (thread_def program.now thread.0).queue) }
-    ensures there { IsOnBoard program.now (place_of result) }
-{
-    Place::Slot {
-        thread,
-        index: position % program.threads.as_slice()[thread.0 as usize].queue as u32,
     }
 }
