@@ -1,21 +1,9 @@
 //! The program `ink_board`: a job's text in, the text of its run, or of its program, out.
 #![tactic(auto)]
 
-mod asked;
-mod board;
-mod command;
-mod complaint;
-mod finish;
-mod making;
-mod report;
-#[cfg(test)]
-mod tests;
-mod words;
-
-use board::board;
-use complaint::{Complaint, exit_code};
 use ink_base::Status;
 use ink_io::{StdSink, StdSource};
+use ink_modes::{Complaint, board, exit_code};
 use std::process::ExitCode;
 use std::{env, io};
 

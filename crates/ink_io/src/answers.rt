@@ -4,11 +4,11 @@ use std::alloc::AllocError;
 use thiserror::Error;
 
 /// One call of a source or a sink failed. It took or appended nothing.
-#[derive(Clone, Copy, Debug, Drop, PartialEq, Eq)]
+#[derive(Clone, Copy, Drop)]
 pub struct Failed;
 
 /// The memory that a call asked for was refused.
-#[derive(Clone, Copy, Debug, Drop, PartialEq, Eq)]
+#[derive(Clone, Copy, Debug, Drop)]
 pub struct NoMemory;
 
 impl From<AllocError> for NoMemory {
@@ -18,12 +18,12 @@ impl From<AllocError> for NoMemory {
 }
 
 /// A text wasn't written whole: a call of its sink failed.
-#[derive(Clone, Copy, Debug, Drop, PartialEq, Eq, Error)]
+#[derive(Clone, Copy, Debug, Drop, Error)]
 #[error("write fault")]
 pub struct WriteFault;
 
 /// Why a job wasn't read.
-#[derive(Clone, Copy, Debug, Drop, PartialEq, Eq, Error)]
+#[derive(Clone, Copy, Debug, Drop, Error)]
 pub enum ReadAnswer {
     /// A call of the source failed.
     #[error("read fault")]

@@ -2,7 +2,7 @@
 
 /// The flags of a command: whether the text shows the journal, gives its summary as JSON, shows the bounds of a charge and the image of
 /// the board, and the seed of a generated job.
-#[derive(Clone, Copy, Debug, PartialEq, Eq)]
+#[derive(Clone, Copy)]
 pub struct Flags {
     pub journal: bool,
     pub json: bool,

@@ -12,6 +12,3 @@ mod threads;
 
 pub use flags::Flags;
 pub use report::run_text;
-
-#[cfg(test)]
-mod tests;

@@ -1,0 +1,68 @@
+-- What a record of a whole run tells.
+use Rattle.std.proofs.Common.{◌≡◌, ℕ, zero, suc, ◌^◌, ◌<◌, List, [], ◌∷◌, length, take, get_or, sym, ap, ◌∙◌, subst, arith}
+use Rattle.std.specs.List.{flat_map}
+use Rattle.ink_base.specs.declared.entry.Entry.{Entry}
+use Rattle.ink_base.specs.declared.entry.Entry.TheVariants.{Scan}
+use Rattle.task_isa.specs.declared.program.Program.{Program}
+use Rattle.ink_layout.specs.Image.{IsFirstImage}
+use Rattle.power_trace.specs.Job.{JobParts, IsJob}
+use Rattle.never_cut.specs.declared.model.Model.{Model}
+use Rattle.never_cut.specs.State.{open_model}
+use Rattle.never_cut.specs.Entries.{Readings, Legal, effect}
+use Rattle.never_cut.specs.Journal.{after, IsLegal}
+use Rattle.never_cut.specs.Replay.{IsFirstIllegal}
+use Rattle.never_cut.specs.Start.{CanStart}
+use Rattle.never_cut.proofs.Settled.{readings_in_order}
+use Rattle.never_cut.proofs.Served.{sound_turns, each_event_once}
+use Rattle.never_cut.proofs.ThreadStates.{states_by_commits}
+use Rattle.never_cut.proofs.Stamped.{stamps_by_commits}
+use Rattle.task_run.specs.Knows.{HasCode}
+use Rattle.kernel_core.specs.declared.run_record.RunRecord.{RunRecord}
+use Rattle.kernel_core.specs.declared.charge_record.ChargeRecord.{ChargeRecord}
+use Rattle.kernel_core.specs.Board.{journal}
+use Rattle.kernel_core.specs.Core.{setup_of}
+use Rattle.kernel_core.specs.Scanned.{ChargesAreScanned}
+use Rattle.kernel_core.proofs.JobMoves.{job_setup, job_prefixes_stand}
+use Rattle.kernel_core.proofs.Growth.{run_grows, run_few, run_legal, run_journal}
+use Rattle.kernel_core.proofs.Scanned.{run_scanned}
+use Rattle.ink_modes.specs.Run.{board_run, entries_of, journal_in, IsRunOf}
+
+module _ (job : JobParts) (first : List ℕ) (r : RunRecord) (is : IsJob job) (code : HasCode job.program) (image : IsFirstImage job.program first) (charges : r.charges ≡ (board_run job first).charges) where
+  journal_same : journal_in r ≡ journal (board_run job first)
+  journal_same = ap (λ (l : List ChargeRecord). flat_map entries_of l) charges ∙ sym (run_journal (setup_of job) first job.charges)
+
+  legal_in : IsLegal job.program job.readings (open_model job.program) (journal_in r)
+  legal_in = subst (λ (l : List Entry). IsLegal job.program job.readings (open_model job.program) l) (sym journal_same) (run_legal job first is code image)
+
+  start : CanStart job.program job.readings (open_model job.program)
+  start = (job_setup job is code).start
+
+  pub run_of : r.job ≡ job → r.words ≡ (board_run job first).words → IsRunOf job r
+  run_of same words = record {
+    job_is = same;
+    first = first;
+    image = image;
+    charges = charges;
+    words = words;
+    stands = λ n. job_prefixes_stand job first is code image n;
+    grows = λ n. let g = run_grows job first is code image n in (g.0, journal_same ∙ g.1);
+    legal = legal_in;
+    few = subst (λ (l : List Entry). length l < 2 ^ 32) (sym journal_same) (run_few job first is code image);
+    in_order = readings_in_order job.program job.readings (open_model job.program) (journal_in r) start.sound.shape.sources legal_in;
+    each_once = each_event_once job.program job.readings (open_model job.program) (journal_in r) (sound_turns job.program job.readings (open_model job.program) start.sound) legal_in;
+    states = states_by_commits job.program job.readings (open_model job.program) (journal_in r) start.sound.shape.threads;
+    stamps = stamps_by_commits job.program job.readings (open_model job.program) (journal_in r) start.stamps legal_in;
+    scanned = subst (λ (l : List ChargeRecord). ChargesAreScanned l) (sym charges) (run_scanned job first is);
+  }
+
+-- each entry of a legal journal is legal in its place
+legal_from : (program : Program) (readings : Readings) (m : Model) (journal : List Entry) (n : ℕ) → IsLegal program readings m journal → n < length journal →
+    Legal program readings (after program readings m (take n journal)) (get_or journal n Scan)
+legal_from program readings m [] n legal lt = absurd (omega arith)
+legal_from program readings m (e ∷ journal) zero legal lt = legal.0
+legal_from program readings m (e ∷ journal) (suc n) legal lt = legal_from program readings (effect program readings m e) journal n legal.1 (omega arith)
+
+-- so a legal journal has no first illegal one
+pub none_illegal : (program : Program) (readings : Readings) (first : Model) (journal : List Entry) (n : ℕ) → IsLegal program readings first journal →
+    IsFirstIllegal program readings first journal n → ⊥
+none_illegal program readings first journal n legal illegal = illegal.illegal (legal_from program readings first journal n legal illegal.there)

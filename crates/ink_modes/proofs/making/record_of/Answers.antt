@@ -1,0 +1,17 @@
+use Rattle.std.proofs.Common.{◌≡◌, ap, ◌∙◌}
+use Rattle.kernel_core.specs.Board.{Board, moved_by}
+use Rattle.kernel_core.specs.Listed.{moves}
+use Rattle.kernel_core.specs.Core.{setup_of}
+use Rattle.ink_modes.specs.Run.{board_run}
+use Rattle.ink_modes.proofs.Runs.{run_of}
+use Rattle.ink_modes.proofs.making.record_of.Goals as goal
+
+pub returns : goal.returns
+returns c =
+    let e = c.in_ok-core.ensures in
+    let ran : c.run.new.self.board ≡ board_run c.args.job c.in_ok-core.core.board.words =
+    c.run.ensures.board ∙ (λ i. moved_by (setup_of (e.job i)) (e.board i) (moves (e.job i).charges)) in
+    run_of c.args.job c.in_ok-core.core.board.words c.into_record.result e.limits e.code e.image
+    (c.into_record.ensures.charges ∙ ap (λ (b : Board). b.charges) ran)
+    (c.into_record.ensures.job ∙ (c.run.ensures.job ∙ e.job))
+    (c.into_record.ensures.words ∙ ap (λ (b : Board). b.words) ran)

@@ -1,0 +1,21 @@
+//! How a call of the program ends.
+
+use ink_base::Status;
+use kernel_core::RunRecord;
+use prog_check::Accepted;
+
+/// What a mode leaves behind.
+#[derive(Drop)]
+pub enum Record {
+    /// The record of the board that was run.
+    Run(RunRecord),
+    /// The program that was printed.
+    Print(Accepted),
+}
+
+/// The status of a call, and the record of its mode; none where nothing was made of a job.
+#[derive(Drop)]
+pub struct Finish {
+    pub status: Status,
+    pub kept: Option<Record>,
+}

@@ -1,0 +1,18 @@
+//! What the program `ink_board` does, without its outside: the words of a command, what each mode makes of its job, and what the user is
+//! told of it. [`board`] is the top call.
+#![tactic(auto)]
+
+mod asked;
+mod command;
+mod complaint;
+mod finish;
+mod making;
+mod report;
+mod top;
+mod words;
+
+pub use command::{Command, Shown};
+pub use complaint::{Complaint, exit_code};
+pub use finish::{Finish, Record};
+pub use top::board;
+pub use words::command_of;

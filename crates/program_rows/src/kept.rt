@@ -1,0 +1,88 @@
+//! What a call keeps.
+
+use crate::fixtures::{FIRST_JOB, words_of};
+use ink_io::{MemSource, SureSink};
+use ink_modes::{Record, board};
+use kernel_core::{ChargeRecord, RunRecord};
+use std::alloc::Global;
+use std::test::Fail;
+
+// The three readings of the full queue.
+const FULL_QUEUE: &str =
+    "[program]\nthread a priority 1 queue 2 state 1 log 8\nsource a\ntask sum thread a limit 100\nli r1 0\nld r2 r1\nev r3\nadd r2 r2 r3\nst r2 r1\nout r2\ndone\nend\n[sensors]\nS0 7 8 9\n[power]\ncharge 0 S0*20\n";
+
+// What is kept of a mode for a job; a read of it fails at this call.
+fn kept_of(alloc: Global, mode: &str, job: &str, call: u64) -> Result<Option<Record>, Fail> {
+    let words = words_of(alloc, &[mode])?;
+    let bytes = Vec::from_slice(alloc, job.as_bytes())?;
+    let mut source = MemSource::new(bytes, 100, [call].to_vec(alloc)?);
+    Ok(board(alloc, words.as_slice(), &mut source, &mut SureSink::new()).kept)
+}
+
+// No call has this number.
+const NEVER: u64 = 0;
+
+fn has_steps(charge: &ChargeRecord, kernel: u32, source: u32) -> bool {
+    charge.kernel_steps == kernel
+        && charge.source_steps.as_slice() == [source].as_slice()
+        && charge.tick_steps == 0
+}
+
+// The record has one charge with so many accesses of the kernel and of the source, and none of the clock.
+fn has_one_charge(record: &RunRecord, kernel: u32, source: u32) -> bool {
+    match record.charges.as_slice() {
+        [charge] => has_steps(charge, kernel, source),
+        _ => false,
+    }
+}
+
+fn keeps_charge(alloc: Global, job: &str, kernel: u32, source: u32) -> Result<bool, Fail> {
+    match kept_of(alloc, "run", job, NEVER)? {
+        Some(Record::Run(record)) => Ok(has_one_charge(&record, kernel, source)),
+        _ => Ok(false),
+    }
+}
+
+#[test]
+fn a_reading_is_pushed_served_and_released(rt: HostRuntime) -> Result<(), Fail> {
+    assert!(rt; keeps_charge(rt.alloc(), FIRST_JOB, 200, 9)?);
+    Ok(())
+}
+
+// The tail, two slots, ACK, the clock and SRC.
+const SHARED: [u64; 6] = [
+    2,
+    0x8000000000000007,
+    0x8000040100000008,
+    0,
+    0,
+    0x0000000300000002,
+];
+
+fn keeps_shared_words(alloc: Global, job: &str) -> Result<bool, Fail> {
+    match kept_of(alloc, "run", job, NEVER)? {
+        Some(Record::Run(record)) => Ok(record.words.as_slice().ends_with(&SHARED)),
+        _ => Ok(false),
+    }
+}
+
+#[test]
+fn a_full_queue_refuses_a_reading(rt: HostRuntime) -> Result<(), Fail> {
+    assert!(rt; keeps_charge(rt.alloc(), FULL_QUEUE, 0, 17)?);
+    assert!(rt; keeps_shared_words(rt.alloc(), FULL_QUEUE)?);
+    Ok(())
+}
+
+#[test]
+fn a_program_that_was_printed_is_kept(rt: HostRuntime) -> Result<(), Fail> {
+    let kept = kept_of(rt.alloc(), "print", FIRST_JOB, NEVER)?;
+    assert!(rt; matches!(&kept, Some(Record::Print(_))));
+    Ok(())
+}
+
+#[test]
+fn nothing_is_kept_of_a_job_that_is_not_read_or_refused(rt: HostRuntime) -> Result<(), Fail> {
+    assert!(rt; kept_of(rt.alloc(), "run", FIRST_JOB, 2)?.is_none());
+    assert!(rt; kept_of(rt.alloc(), "run", "[program]\n", NEVER)?.is_none());
+    Ok(())
+}

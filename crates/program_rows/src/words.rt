@@ -1,0 +1,147 @@
+//! The words of the command line, beside those that a `clap` command reads.
+
+use crate::fixtures::words_of;
+use clap::{Arg, ArgAction, ArgMatches};
+use ink_modes::{Command, Shown, command_of};
+use std::alloc::{AllocError, Global};
+use std::test::Fail;
+
+fn command_in(alloc: Global, words: &[&str]) -> Result<Option<Command>, AllocError> {
+    let words = words_of(alloc, words)?;
+    Ok(command_of(words.as_slice()))
+}
+
+fn are_no_command(alloc: Global, words: &[&str]) -> Result<bool, AllocError> {
+    let command = command_in(alloc, words)?;
+    Ok(command.is_none())
+}
+
+#[test]
+fn other_words_are_no_command(rt: HostRuntime) -> Result<(), Fail> {
+    let commands: [&[&str]; 24] = [
+        &[],
+        &["fly"],
+        &["run", "run"],
+        &["run", "--json", "--json"],
+        &["--journal"],
+        &["run", "--seed", "3"],
+        &["run", "--seed=3"],
+        &["run", "--seed"],
+        &["run", "--"],
+        &["run", "--bounds"],
+        &["run", "--image"],
+        &["run", "--help"],
+        &["print", "run"],
+        &["print", "--json"],
+        &["print", "--seed", "3"],
+        &["soak"],
+        &["soak", "--seed"],
+        &["soak", "--seed="],
+        &["soak", "--seed", "--json"],
+        &["soak", "--seed", "5", "5"],
+        &["soak", "--seed", "5", "--seed=5"],
+        &["soak", "--seed", "12345678901"],
+        &["soak", "--seed", "4294967296"],
+        &["soak", "--seed=+5"],
+    ];
+    for words in commands {
+        assert!(rt; are_no_command(rt.alloc(), words)?);
+    }
+    Ok(())
+}
+
+fn are_soak(
+    alloc: Global,
+    words: &[&str],
+    number: u32,
+    journal: bool,
+    json: bool,
+) -> Result<bool, AllocError> {
+    let shown = Shown { journal, json };
+    Ok(command_in(alloc, words)? == Some(Command::Soak { number, shown }))
+}
+
+fn are_run(alloc: Global, words: &[&str], journal: bool, json: bool) -> Result<bool, AllocError> {
+    Ok(command_in(alloc, words)? == Some(Command::Run(Shown { journal, json })))
+}
+
+#[test]
+fn words_stand_in_any_order(rt: HostRuntime) -> Result<(), Fail> {
+    let alloc = rt.alloc();
+    assert!(rt; are_soak(alloc, &["--seed", "05", "soak"], 5, false, false)?);
+    assert!(rt;
+        are_soak(
+            alloc,
+            &["--json", "--seed=4294967295", "soak"],
+            4294967295,
+            false,
+            true
+        )?
+    );
+    let words = ["--seed", "0000000007", "--journal", "soak", "--json"];
+    assert!(rt; are_soak(alloc, &words, 7, true, true)?);
+    assert!(rt; are_run(alloc, &["--json", "run", "--journal"], true, true)?);
+    assert!(rt; command_in(alloc, &["print"])? == Some(Command::Print));
+    Ok(())
+}
+
+// What a `clap` command with these flags reads from the words behind the program's name.
+fn matches_of<'a>(alloc: Global, words: &'a [&'a str]) -> Result<ArgMatches<'a>, clap::Error> {
+    let mode = Arg::new(alloc, "mode")
+        .required(true)
+        .action(ArgAction::Set);
+    let journal = Arg::new(alloc, "journal")
+        .long("journal")
+        .action(ArgAction::SetTrue);
+    let json = Arg::new(alloc, "json")
+        .long("json")
+        .action(ArgAction::SetTrue);
+    let seed = Arg::new(alloc, "seed").long("seed").action(ArgAction::Set);
+    clap::Command::new(alloc, "ink_board")
+        .arg(mode)?
+        .arg(journal)?
+        .arg(json)?
+        .arg(seed)?
+        .try_get_matches_from(words)
+}
+
+// The command that those matches ask for.
+fn command_of_matches(matches: &ArgMatches<'_>) -> Option<Command> {
+    let shown = Shown {
+        journal: matches.get_flag("journal"),
+        json: matches.get_flag("json"),
+    };
+    match (matches.get_str("mode"), matches.get_one::<u32>("seed")) {
+        (Some("run"), None) => Some(Command::Run(shown)),
+        (Some("print"), None) => Some(Command::Print),
+        (Some("soak"), Some(number)) => Some(Command::Soak { number, shown }),
+        _ => None,
+    }
+}
+
+fn command_by_clap(alloc: Global, line: &[&str]) -> Result<Option<Command>, Fail> {
+    let matches = matches_of(alloc, line)?;
+    Ok(command_of_matches(&matches))
+}
+
+// Both read the same command from the words behind the first.
+fn are_same(alloc: Global, line: &[&str]) -> Result<bool, Fail> {
+    let command = command_in(alloc, line.get(1..).unwrap_or(&[]))?;
+    Ok(command.is_some() && command == command_by_clap(alloc, line)?)
+}
+
+#[test]
+fn same_words(rt: HostRuntime) -> Result<(), Fail> {
+    let commands: [&[&str]; 6] = [
+        &["ink_board", "run"],
+        &["ink_board", "print"],
+        &["ink_board", "run", "--json"],
+        &["ink_board", "run", "--journal"],
+        &["ink_board", "soak", "--seed", "5"],
+        &["ink_board", "soak", "--seed=5"],
+    ];
+    for line in commands {
+        assert!(rt; are_same(rt.alloc(), line)?);
+    }
+    Ok(())
+}
