@@ -1,5 +1,5 @@
 # shellcheck shell=bash
-# Completion of ink_board's words in bash: the modes, and for each mode its flags, each offered once.
+# Completion of ink_board's words in bash: the modes, and for each mode its flags, each offered once; behind `<` jobs and folders before other files.
 # To have it, write into ~/.bashrc, with the repository's path:
 #     source /path/to/ink_board/docs/completion/ink_board.bash
 
@@ -23,13 +23,20 @@ _ink_board_modes() {
   done
 }
 
+# The jobs and folders that begin like this. Where there are some, no other file is offered behind `<`.
+_ink_board_jobs() {
+  compgen -f -X '!*.job' -- "$1"
+  compgen -d -- "$1"
+}
+
 _ink_board() {
   local current=${COMP_WORDS[COMP_CWORD]} previous=${COMP_WORDS[COMP_CWORD - 1]}
   COMPREPLY=()
   case $previous in
     '<' | '>' | '>>' | '>|' | '<>') # no word of the command, but the name of a file
       compopt -o filenames 2>/dev/null
-      mapfile -t COMPREPLY < <(compgen -f -- "$current")
+      [[ $previous != '<' ]] || mapfile -t COMPREPLY < <(_ink_board_jobs "$current")
+      ((${#COMPREPLY[@]} > 0)) || mapfile -t COMPREPLY < <(compgen -f -- "$current")
       return
       ;;
     --seed | =) return ;; # a number

@@ -1,6 +1,8 @@
 " Vim syntax of the jobs of ink_board, files *.job.
-" To install it, copy the folders syntax and ftdetect into ~/.vim, or write into ~/.vimrc, with the repository's path, above `syntax on`:
+" To install it, copy the folders syntax, ftdetect and ftplugin into ~/.vim, or write into ~/.vimrc, with the repository's path, above `syntax on`:
 "     set runtimepath+=/path/to/ink_board/docs/editors/vim
+" `filetype plugin on` in ~/.vimrc lets the folder ftplugin tell vim the sign of comments.
+" Vim colours the first 3000 columns of a line alone, and lines of charges may be longer: `set synmaxcol=0` takes that limit away.
 " It looks at one line at a time, so it doesn't tell whether what a line names is there.
 
 if exists("b:current_syntax")
