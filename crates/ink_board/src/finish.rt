@@ -5,7 +5,7 @@ use kernel_core::RunRecord;
 use prog_check::Accepted;
 
 /// What a mode leaves behind.
-#[derive(Debug, Drop)]
+#[derive(Drop)]
 pub enum Record {
     /// The record of the board that was run.
     Run(RunRecord),
@@ -14,7 +14,7 @@ pub enum Record {
 }
 
 /// The status of a call, and the record of its mode; none where nothing was made of a job.
-#[derive(Debug, Drop)]
+#[derive(Drop)]
 pub struct Finish {
     pub status: Status,
     pub kept: Option<Record>,

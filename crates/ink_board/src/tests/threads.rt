@@ -1,7 +1,7 @@
 //! Several threads: their order, their preemption between tasks, and chains that survive cuts.
 
 use super::programs::prints;
-use super::{declare_threads, run_kept, run_text, tell_served};
+use super::{begins_with, declare_threads, run_kept, run_text, tell_served};
 use ink_base::{Entry, SourceId, Status, ThreadId};
 use ink_io::MemSink;
 use std::process::Abort;
@@ -60,7 +60,7 @@ fn an_event_behind_its_threads_look_is_passed_over_until_the_next_scan(
         Entry::Commit { thread: hi },
         Entry::Release { thread: hi },
     ];
-    assert!(rt; charge.entries.as_slice().starts_with(&beginning));
+    assert!(rt; begins_with(charge.entries.as_slice(), &beginning));
     Ok(())
 }
 
