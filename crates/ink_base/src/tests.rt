@@ -7,27 +7,11 @@ fn words_of_two_lines(rt: HostRuntime) -> Result<(), Fail> {
         .ok()
         .ok_or("allowed")?;
     assert_eq!(rt; tokens.lines, 3);
-    assert_eq!(rt;
-        tokens.list.as_slice(),
-        [
-            Token {
-                line: 1,
-                start: 0,
-                stop: 2
-            },
-            Token {
-                line: 1,
-                start: 4,
-                stop: 5
-            },
-            Token {
-                line: 3,
-                start: 12,
-                stop: 13
-            },
-        ]
-        .as_slice()
-    );
+    let places = [(1, 0, 2), (1, 4, 5), (3, 12, 13)];
+    assert_eq!(rt; tokens.list.len(), places.len());
+    for (token, place) in tokens.list.iter().zip(places.iter()) {
+        assert_eq!(rt; (token.line, token.start, token.stop), *place);
+    }
     Ok(())
 }
 

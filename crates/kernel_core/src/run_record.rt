@@ -13,7 +13,7 @@ use std::alloc::Global;
 use std::marker::Model;
 
 /// The job of a run, what each of its charges left behind, in order, and the words of the FRAM at its end, by address.
-#[derive(Debug, Drop)]
+#[derive(Drop)]
 pub struct RunRecord {
     pub job: Job,
     pub charges: Items<ChargeRecord>,

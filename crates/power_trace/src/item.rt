@@ -3,7 +3,7 @@
 use ink_base::Actor;
 
 /// So many turns of one actor.
-#[derive(Clone, Copy, Debug, PartialEq, Eq)]
+#[derive(Clone, Copy)]
 pub struct Item {
     pub actor: Actor,
     pub count: u32,

@@ -10,7 +10,7 @@ use std::marker::Model;
 
 /// An accepted program, the readings of each of its sources, and its power trace, all within the limits: a source has at most
 /// 65,535 readings, and the 1 to 4,096 charges list turns of the board's own actors, at most 4,194,304 in all.
-#[derive(Debug, Drop)]
+#[derive(Drop)]
 pub struct Job {
     accepted: Accepted,
     readings: Items<Items<u32>>,

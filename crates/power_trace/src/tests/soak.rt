@@ -1,12 +1,11 @@
 //! Generated jobs, and copies of jobs.
 
-use super::job_text;
+use super::{are_turns, job_text, turn};
 use crate::charge::Charge;
 use crate::item::Item;
 use crate::job::Job;
 use crate::parse::parse_job;
 use crate::soak::soak_job;
-use ink_base::{Actor, SourceId};
 use prog_check::Accepted;
 use sqlite_items::Items;
 use std::test::Fail;
@@ -29,25 +28,8 @@ fn turns(charges: &[Charge]) -> u32 {
 }
 
 fn is_first_charge(charge: &Charge) -> bool {
-    let items = [
-        Item {
-            actor: Actor::Source(SourceId(0)),
-            count: 3,
-        },
-        Item {
-            actor: Actor::Kernel,
-            count: 463,
-        },
-        Item {
-            actor: Actor::Source(SourceId(1)),
-            count: 9,
-        },
-        Item {
-            actor: Actor::Clock,
-            count: 2,
-        },
-    ];
-    charge.off == 4 && charge.items.as_slice() == items.as_slice()
+    let wanted = [('S', 0, 3), ('K', 0, 463), ('S', 1, 9), ('T', 0, 2)];
+    charge.off == 4 && are_turns(charge.items.as_slice(), &wanted)
 }
 
 fn have_same_names(a: &Accepted, b: &Accepted) -> bool {
@@ -69,9 +51,15 @@ fn are_same_readings(a: &[Items<u32>], b: &[Items<u32>]) -> bool {
     a.len() == b.len()
 }
 
+fn are_same_items(a: &[Item], b: &[Item]) -> bool {
+    a.len() == b.len() && a.iter().zip(b.iter()).all(|(a, b)| turn(*a) == turn(*b))
+}
+
 fn are_same_charges(a: &[Charge], b: &[Charge]) -> bool {
     for (first, second) in a.iter().zip(b.iter()) {
-        if first.off != second.off || first.items.as_slice() != second.items.as_slice() {
+        if first.off != second.off
+            || !are_same_items(first.items.as_slice(), second.items.as_slice())
+        {
             return false;
         }
     }
