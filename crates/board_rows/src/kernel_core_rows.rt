@@ -14,21 +14,22 @@ fn record(alloc: Global, text: &[u8]) -> Result<RunRecord, JobAnswer> {
 
 // A pushed reading and its service, up to the release.
 fn is_whole_service(charge: &ChargeRecord) -> bool {
-    let entries = [
-        Entry::Tick { by: 0 },
-        Entry::Push {
-            source: SourceId(0),
-        },
-        Entry::Scan,
-        Entry::Commit {
-            thread: ThreadId(0),
-        },
-        Entry::Release {
-            thread: ThreadId(0),
-        },
-    ];
-    charge.entries.as_slice() == entries.as_slice()
-        && charge.source_steps.as_slice() == [9].as_slice()
+    matches!(
+        charge.entries.as_slice(),
+        [
+            Entry::Tick { by: 0 },
+            Entry::Push {
+                source: SourceId(0)
+            },
+            Entry::Scan,
+            Entry::Commit {
+                thread: ThreadId(0)
+            },
+            Entry::Release {
+                thread: ThreadId(0)
+            },
+        ]
+    ) && charge.source_steps.as_slice() == [9].as_slice()
         && (charge.off, charge.kernel_steps, charge.tick_steps) == (0, 79, 0)
 }
 
