@@ -18,10 +18,4 @@ pub use making::make_layout;
 pub use pick::Pick;
 pub use plan::Plan;
 pub use slot_at::SlotAt;
-<<<<<<< HEAD
-=======
 pub use slots::slot_of;
-
-#[cfg(test)]
-mod tests;
->>>>>>> bfbdcf7ae62024181e9baade2de1efc7e4ca8df8
