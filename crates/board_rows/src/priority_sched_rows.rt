@@ -1,6 +1,7 @@
 //! Scans of two threads, from a row of the access table on.
 
-ghost use Rattle.std.specs.Prelude.{IsTrue};
+ghost use Rattle.std.specs.Prelude.{◌+◌, ◌≤◌, IsTrue};
+ghost use Rattle.prog_check.specs.Lookup.{pipe_def};
 ghost use Rattle.priority_sched.specs.Scan.{IsScan, IsScanWord, IsWaiting};
 
 use crate::fixtures::{PIPED, TWO_THREADS, plan};
@@ -35,7 +36,9 @@ fn is_scan(program: &Program, scan: &ScanMachine) -> bool
 }
 
 // No more items were written than taken and places.
-fn is_written(program: &Program, waiting: Waiting, word: u64) -> bool {
+fn is_written(program: &Program, waiting: Waiting, word: u64) -> bool
+    ensures { IsTrue result → (waiting.taken ≤ word) × (word ≤ waiting.taken + (pipe_def program.now waiting.pipe.0).places) }
+{
     match program.pipes.as_slice().get(waiting.pipe.0 as usize) {
         Some(pipe) => waiting.taken < 1 << 32
             && waiting.taken <= word
