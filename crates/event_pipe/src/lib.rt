@@ -2,7 +2,5 @@
 #![tactic(auto)]
 
 mod ring;
-#[cfg(test)]
-mod tests;
 
 pub use ring::{has_item, has_room, ring_at};

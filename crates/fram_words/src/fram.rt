@@ -6,7 +6,7 @@ use std::alloc::Global;
 use std::marker::Model;
 
 /// The words of a board, by their addresses from 0.
-#[derive(Debug, Drop)]
+#[derive(Drop)]
 pub struct Fram {
     words: Vec<u64>,
 }

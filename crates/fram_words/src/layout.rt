@@ -5,7 +5,7 @@ use sqlite_items::Items;
 
 /// Where the words of a thread stand: its commit word, the first word of its pages, the number of words of its block (one copy of
 /// the header and the state), and the first word of its log.
-#[derive(Clone, Copy, Debug, PartialEq, Eq)]
+#[derive(Clone, Copy)]
 pub struct ThreadPlace {
     pub commit: Addr,
     pub first: Addr,
@@ -14,7 +14,7 @@ pub struct ThreadPlace {
 }
 
 /// Where the words of a queue stand: its tail, its first slot, and how many slots it has.
-#[derive(Clone, Copy, Debug, PartialEq, Eq)]
+#[derive(Clone, Copy)]
 pub struct QueuePlace {
     pub tail: Addr,
     pub slots: Addr,
@@ -23,7 +23,7 @@ pub struct QueuePlace {
 
 /// Where the words of a program stand: the code of each task, each thread, the ring of each pipe; the number of private words,
 /// which are those before the shared ones; each thread's queue, the first ACK, the clock, the first SRC; and the number of all words.
-#[derive(Debug, Drop)]
+#[derive(Drop)]
 pub struct Layout {
     pub tasks: Items<Addr>,
     pub threads: Items<ThreadPlace>,

@@ -3,7 +3,7 @@
 use ink_base::{PipeId, SourceId, TaskId, ThreadId};
 
 /// One word of the board, by what it holds. Indices count from 0.
-#[derive(Clone, Copy, Debug, PartialEq, Eq)]
+#[derive(Clone, Copy)]
 pub enum Place {
     /// The code word at an offset of a task.
     Code {
@@ -53,7 +53,7 @@ pub enum Place {
 }
 
 /// An access to the word of a place. `Plan::access` of ink_layout gives the access to its address.
-#[derive(Clone, Copy, Debug, PartialEq, Eq)]
+#[derive(Clone, Copy)]
 pub enum Step {
     /// Reads the word.
     Load(Place),

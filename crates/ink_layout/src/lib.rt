@@ -19,6 +19,3 @@ pub use pick::Pick;
 pub use plan::Plan;
 pub use slot_at::SlotAt;
 pub use slots::slot_of;
-
-#[cfg(test)]
-mod tests;

@@ -10,7 +10,7 @@ use std::alloc::Global;
 use task_isa::Program;
 
 /// An accepted program and its layout.
-#[derive(Debug, Drop)]
+#[derive(Drop)]
 pub struct Plan {
     pub accepted: Accepted,
     pub layout: Layout,

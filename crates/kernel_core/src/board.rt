@@ -30,7 +30,7 @@ use task_run::read_code_back;
 
 /// A job's board in its run: the words, the kernel, the sources and the clock, and what each charge leaves behind. Contracts see the
 /// job, the board, and for how many turns of the charge at hand there is room.
-#[derive(Debug, Drop)]
+#[derive(Drop)]
 pub struct Core {
     job: Job,
     plan: Plan,

@@ -11,7 +11,7 @@ use reboot::BootMachine;
 use task_run::TaskMachine;
 
 /// The kernel, by its registers: in the boot of a charge, in a scan, or in the service of a pick. The stamp is the number of commits so far.
-#[derive(Clone, Copy, Debug, PartialEq, Eq)]
+#[derive(Clone, Copy)]
 pub enum Kernel {
     Boot(BootMachine),
     Scan { stamp: u64, scan: ScanMachine },

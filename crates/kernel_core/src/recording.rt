@@ -11,7 +11,7 @@ use std::alloc::Global;
 use std::marker::Model;
 
 /// The record of a charge, to which turns add. Contracts see it and for how many more entries there is room.
-#[derive(Debug, Drop)]
+#[derive(Drop)]
 pub(crate) struct Recording {
     off: u32,
     entries: Vec<Entry>,

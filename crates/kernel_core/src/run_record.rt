@@ -21,7 +21,7 @@ pub struct RunRecord {
 }
 
 /// Room for the lists of a record, taken before the run. Contracts see for how many charges and words.
-#[derive(Debug, Drop)]
+#[derive(Drop)]
 pub(crate) struct RecordRoom {
     charges: Vec<ChargeRecord>,
     words: Vec<u64>,

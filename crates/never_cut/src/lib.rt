@@ -27,6 +27,3 @@ pub use scan_model::ScanModel;
 pub use source_model::SourceModel;
 pub use thread_model::ThreadModel;
 pub use timer_model::TimerModel;
-
-#[cfg(test)]
-mod tests;

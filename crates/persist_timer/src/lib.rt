@@ -2,7 +2,5 @@
 #![tactic(auto)]
 
 mod due;
-#[cfg(test)]
-mod tests;
 
 pub use due::{after_service, armed, due_at, is_due, is_expired};

@@ -22,6 +22,3 @@ pub use machine::ScanMachine;
 pub use order::next_below;
 pub use scan_at::ScanAt;
 pub use scanned::Scanned;
-
-#[cfg(test)]
-mod tests;

@@ -19,7 +19,7 @@ use thread_state::place_in;
 
 /// The kernel between two services: the thread at hand, the scan's time in ticks once the clock was loaded, and the row of the access
 /// table.
-#[derive(Clone, Copy, Debug, PartialEq, Eq)]
+#[derive(Clone, Copy)]
 pub struct ScanMachine {
     pub thread: ThreadId,
     pub time: u64,

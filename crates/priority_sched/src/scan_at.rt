@@ -6,7 +6,7 @@ use ink_base::{Event, Origin, PipeId, TaskId, TimerId};
 use ink_layout::Pick;
 
 /// The access that comes next for the thread at hand, with what was found for it.
-#[derive(Clone, Copy, Debug, PartialEq, Eq)]
+#[derive(Clone, Copy)]
 pub enum ScanAt {
     /// Loads the clock.
     Clock,

@@ -10,8 +10,6 @@ mod row;
 mod slot;
 mod stage;
 mod steps;
-#[cfg(test)]
-mod tests;
 
 pub use phase::Phase;
 pub use point::Point;

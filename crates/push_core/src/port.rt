@@ -4,7 +4,7 @@ use fram_words::{Access, QueuePlace};
 use ink_base::{Addr, SourceId};
 
 /// A source's number, the queue that it feeds, and the addresses of its ACK and its SRC.
-#[derive(Clone, Copy, Debug, PartialEq, Eq)]
+#[derive(Clone, Copy)]
 pub struct Port {
     pub source: SourceId,
     pub queue: QueuePlace,

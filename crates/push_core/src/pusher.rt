@@ -11,7 +11,7 @@ use crate::stage::Stage;
 use fram_words::Access;
 
 /// A source with its port, at a row of its access table. All calls on one source are given equal readings: its row fits their number.
-#[derive(Clone, Copy, Debug, PartialEq, Eq)]
+#[derive(Clone, Copy)]
 pub struct Pusher {
     pub port: Port,
     pub row: Row,

@@ -12,7 +12,7 @@ use fram_words::Access;
 
 /// A source's place in its access table: the number of its accepted events and its next reading, as far as it knows them (0 before
 /// it has loaded SRC), and the row.
-#[derive(Clone, Copy, Debug, PartialEq, Eq)]
+#[derive(Clone, Copy)]
 pub struct Row {
     pub accepted: u32,
     pub next: u32,

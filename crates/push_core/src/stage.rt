@@ -1,7 +1,7 @@
 //! The rows of a source's access table.
 
 /// A row of a source's access table, with what it goes on with. A tail is the one that the source loaded last.
-#[derive(Clone, Copy, Debug, PartialEq, Eq)]
+#[derive(Clone, Copy)]
 pub enum Stage {
     /// Boot: loads SRC.
     LoadSrc,

@@ -3,7 +3,7 @@
 use ink_base::SourceId;
 
 /// The access that comes next for the thread at hand, with what was found for it.
-#[derive(Clone, Copy, Debug, PartialEq, Eq)]
+#[derive(Clone, Copy)]
 pub enum BootAt {
     /// Loads the commit word.
     Commit,

@@ -8,6 +8,3 @@ mod machine;
 pub use boot_at::BootAt;
 pub use laws::boot_releases;
 pub use machine::BootMachine;
-
-#[cfg(test)]
-mod tests;

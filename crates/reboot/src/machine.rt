@@ -17,7 +17,7 @@ use task_isa::Program;
 use thread_state::place_in;
 
 /// The kernel at the start of a charge: the thread at hand, the greatest stamp that it has loaded, and the row of the access table.
-#[derive(Clone, Copy, Debug, PartialEq, Eq)]
+#[derive(Clone, Copy)]
 pub struct BootMachine {
     pub thread: ThreadId,
     pub stamp: u64,

@@ -4,7 +4,7 @@ ghost use Rattle.std.specs.Prelude.{◌≡◌, ◌<◌};
 ghost use Rattle.task_run.specs.Endings as endings;
 
 /// How the task at hand ends its service or goes on, as far as is known; `Done` until the run shows otherwise.
-#[derive(Clone, Copy, Debug, PartialEq, Eq)]
+#[derive(Clone, Copy)]
 pub enum Ending {
     /// The chain goes on with the task of this number.
     Next { task: u32 },

@@ -7,7 +7,7 @@ use ink_base::TaskId;
 
 /// How far the run of a task is: the task, the offset of its next instruction, the sixteen registers, and the number of executed
 /// instructions.
-#[derive(Clone, Copy, Debug, PartialEq, Eq)]
+#[derive(Clone, Copy)]
 pub struct Execution {
     pub task: TaskId,
     pub at: u32,

@@ -14,10 +14,7 @@ mod phase;
 mod pipe_at;
 mod sending;
 mod steps;
-#[cfg(test)]
-mod test_board;
-#[cfg(test)]
-mod tests;
+
 mod want;
 
 pub use code::read_code_back;

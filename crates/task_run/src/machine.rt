@@ -16,7 +16,7 @@ use thread_state::Buffer;
 
 /// The machine that serves one pick, by its registers: the pick, the kernel's stamp (the number of commits before this one), the
 /// registers of the thread's writes, how the task ends as far as is known, how far its run is, and the access that comes next.
-#[derive(Clone, Copy, Debug, PartialEq, Eq)]
+#[derive(Clone, Copy)]
 pub struct TaskMachine {
     pub pick: Pick,
     pub stamp: u64,

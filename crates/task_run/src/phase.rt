@@ -5,7 +5,7 @@ use ink_base::SourceId;
 use task_isa::Reg;
 
 /// The access that comes next, with what was found for it. A write to a page whose other copy isn't in use yet copies the page first.
-#[derive(Clone, Copy, Debug, PartialEq, Eq)]
+#[derive(Clone, Copy)]
 pub enum Phase {
     /// Writes the time of the service's first commit.
     WriteFirst,

@@ -3,7 +3,7 @@
 use task_isa::Reg;
 
 /// An item that is sent: the number of the pipe, the value, and the register that tells whether the pipe had room.
-#[derive(Clone, Copy, Debug, PartialEq, Eq)]
+#[derive(Clone, Copy)]
 pub struct Sending {
     pub pipe: u32,
     pub register: Reg,

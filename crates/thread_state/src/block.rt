@@ -12,7 +12,7 @@ use ink_base::{Addr, ThreadId};
 /// A thread's header and state: the address of its commit word, the address of the first word of its pages, and the number of words
 /// of one copy. A page has eight words, and two places, one after the other; bit `n` of the commit word names the committed place
 /// of page `n`.
-#[derive(Clone, Copy, Debug, PartialEq, Eq)]
+#[derive(Clone, Copy)]
 pub struct Block {
     pub commit: Addr,
     pub first: Addr,

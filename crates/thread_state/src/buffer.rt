@@ -14,7 +14,7 @@ use std::marker::Model;
 
 /// The registers of a thread's writes since its last commit: its commit word, the set of pages whose other copy is in use, and how
 /// far the copying of a page is. Contracts see the registers.
-#[derive(Clone, Copy, Debug, PartialEq, Eq)]
+#[derive(Clone, Copy)]
 pub struct Buffer {
     commit: u64,
     dirty: u64,

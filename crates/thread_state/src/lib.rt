@@ -11,6 +11,3 @@ pub use block::{Block, committed_at};
 pub use buffer::{Buffer, place_in};
 pub use laws::two_copies;
 pub use machine::BufferMachine;
-
-#[cfg(test)]
-mod tests;

@@ -16,7 +16,7 @@ const OWN: ThreadId = ThreadId(0);
 
 /// The writes of one thread since its last commit, at the addresses of its block. A write goes to the other copy of its page than the
 /// committed one; a page whose other copy is in use is dirty. Contracts see the block, the registers, and the page that is being copied.
-#[derive(Clone, Copy, Debug, PartialEq, Eq)]
+#[derive(Clone, Copy)]
 pub struct BufferMachine {
     block: Block,
     buffer: Buffer,

@@ -1,0 +1,48 @@
+//! A run of a small job.
+
+use crate::fixtures::{SUMMING, job};
+use ink_base::{Entry, JobAnswer, SourceId, ThreadId};
+use kernel_core::{ChargeRecord, RunRecord, prepare};
+use std::alloc::Global;
+use std::test::Fail;
+
+fn record(alloc: Global, text: &[u8]) -> Result<RunRecord, JobAnswer> {
+    let mut core = prepare(alloc, job(alloc, text)?)?;
+    core.run();
+    Ok(core.into_record())
+}
+
+// A pushed reading and its service, up to the release.
+fn is_whole_service(charge: &ChargeRecord) -> bool {
+    let entries = [
+        Entry::Tick { by: 0 },
+        Entry::Push {
+            source: SourceId(0),
+        },
+        Entry::Scan,
+        Entry::Commit {
+            thread: ThreadId(0),
+        },
+        Entry::Release {
+            thread: ThreadId(0),
+        },
+    ];
+    charge.entries.as_slice() == entries.as_slice()
+        && charge.source_steps.as_slice() == [9].as_slice()
+        && (charge.off, charge.kernel_steps, charge.tick_steps) == (0, 79, 0)
+}
+
+fn is_one_service(alloc: Global, text: &[u8]) -> Result<bool, JobAnswer> {
+    let record = record(alloc, text)?;
+    match record.charges.as_slice() {
+        [charge] => Ok(is_whole_service(charge)),
+        _ => Ok(false),
+    }
+}
+
+// 3 accesses of a boot, 5 of a scan, and 71 of a task.
+#[test]
+fn a_run_records_its_charge(rt: HostRuntime) -> Result<(), Fail> {
+    assert!(rt; is_one_service(rt.alloc(), SUMMING)?);
+    Ok(())
+}
