@@ -1,4 +1,4 @@
-//! Tests of ink_io, ink_report, ink_modes and of the limits of a job, through their public calls.
+//! Tests of ink_modes and of the limits of a job, through their public calls.
 #![tactic(auto)]
 
 #[cfg(test)]
@@ -9,9 +9,5 @@ mod fixtures;
 mod kept;
 #[cfg(test)]
 mod limits;
-#[cfg(test)]
-mod moved;
-#[cfg(test)]
-mod reported;
 #[cfg(test)]
 mod words;

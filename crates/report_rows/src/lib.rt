@@ -1,0 +1,7 @@
+//! Tests of ink_io and ink_report through their public calls.
+#![tactic(auto)]
+
+#[cfg(test)]
+mod moved;
+#[cfg(test)]
+mod reported;
