@@ -7,7 +7,7 @@ use crate::charge_record::ChargeRecord;
 use crate::recording::Recording;
 use fram_words::Fram;
 use ink_base::NoMemory;
-use power_trace::Job;
+use job_parts::Job;
 use sqlite_items::Items;
 use std::alloc::Global;
 use std::marker::Model;
