@@ -1,5 +1,5 @@
 -- A board with one queue.
-use Rattle.std.proofs.Common.{◌≡◌, inl, inr, ℕ, zero, suc, ◌<◌, ◌≤◌, List, [], ◌∷◌, ◌++◌, map, length, length-append, get_or, slice_index, refl, sym, ap, ◌∙◌, subst, arith}
+use Rattle.std.proofs.Common.{◌≡◌, inl, inr, ℕ, zero, suc, ◌<◌, ◌≤◌, List, [], ◌∷◌, ◌++◌, map, length, length-append, get_or, take, drop, slice_index, refl, sym, ap, ◌∙◌, subst, arith}
 use Rattle.std.proofs.lemmas.List.{length-map, map-append}
 use mathlib.Core.Option.{some}
 use lib.ListN.{get_elem?}
@@ -65,3 +65,13 @@ pub opened_kernel : (set : QueueSet) (shape : Shape) (places n : ℕ) (k : Kerne
 opened_kernel set shape places n k same one h =
     let some : 0 < length (kernel_view k).lay.queues = omega (arith, ap (λ (z : Lay). length z.queues) (h.of.1 ∙ ap lay_of same), ap length one.queues) in
     (h.of, some, ap (released_of 0) h.calls)
+
+-- what is written through a whole slice is all that the list has
+written_back : {A : Type 0} (n : ℕ) (new old : List A) → n ≡ length new → length new ≡ length old → take n (new ++ drop (length new) old) ≡ new
+written_back n [] [] e same = ap (λ (k : ℕ). take k []) e
+written_back n [] (y ∷ ys) e same = absurd (omega arith)
+written_back n (x ∷ xs) [] e same = absurd (omega arith)
+written_back n (x ∷ xs) (y ∷ ys) e same = ap (λ (k : ℕ). take k (x ∷ (xs ++ drop (length xs) ys))) e ∙ ap (λ (zs : List _). x ∷ zs) (written_back (length xs) xs ys refl (omega arith))
+
+pub all_back : {A : Type 0} (P : A → Type 0) (n : ℕ) (new old : List A) → n ≡ length new → length new ≡ length old → All P new → All P (take n (new ++ drop (length new) old))
+all_back P n new old e same all = subst (All P) (sym (written_back n new old e same)) all

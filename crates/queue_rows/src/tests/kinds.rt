@@ -1,5 +1,5 @@
 //! Each kind of step, one after another.
-ghost use Rattle.std.specs.Prelude.{All};
+ghost use Rattle.std.specs.Prelude.{◌≡◌, All, length};
 ghost use Rattle.event_queue.specs.Seats.{IsSeatOf, IsKernelSeatOf};
 ghost use Rattle.queue_rows.specs.Rounds.{IsNew, IsAt};
 
@@ -34,7 +34,8 @@ fn source_steps(set: &QueueSet, seat: &mut SourceSeat, steps: u8)
 /// The same of each source's seat, one after another.
 fn all_source_steps<R: Threads + Sync>(rt: &R, set: &QueueSet, seats: &mut [SourceSeat], steps: u8)
     requires { All (IsNew set.now 2) seats.old }
-    ensures { All (IsSeatOf set.now) seats.new }
+    ensures seats { All (IsSeatOf set.now) seats.new }
+    ensures number { length seats.new ≡ length seats.old }
 {
     for_each_mut(rt, seats, 1, &|_, seat| source_steps(set, seat, steps));
 }

@@ -1,5 +1,5 @@
 //! The sources and the kernel in threads of their own.
-ghost use Rattle.std.specs.Prelude.{◌≡◌, ◌<◌, ◌≤◌, All};
+ghost use Rattle.std.specs.Prelude.{◌≡◌, ◌<◌, ◌≤◌, All, length};
 ghost use Rattle.std.specs.Thread.{IsSync};
 ghost use Rattle.event_queue.specs.Seats.{IsSeatOf, IsKernelSeatOf};
 ghost use Rattle.queue_rows.specs.Rounds.{IsNew, IsAt};
@@ -41,7 +41,8 @@ pub fn push_at_once<R: Threads + Sync>(
     requires after { All (IsNew set.now places) seats.old }
     requires places { 0 < places }
     requires few { readings ≤ 64 }
-    ensures { All (IsSeatOf set.now) seats.new }
+    ensures seats { All (IsSeatOf set.now) seats.new }
+    ensures number { length seats.new ≡ length seats.old }
 {
     for_each_mut(
         rt,
@@ -64,6 +65,7 @@ pub fn all_at_once<R: Threads + Sync>(
     requires seats { All (IsNew set.now 4) seats.old }
     ensures kernel { IsAt set.now result kernel.new }
     ensures seats { All (IsSeatOf set.now) seats.new }
+    ensures number { length seats.new ≡ length seats.old }
 {
     let mut released = 0;
     join_mut(
@@ -74,7 +76,7 @@ pub fn all_at_once<R: Threads + Sync>(
         { released = take_all(set, kernel, 400, served) },
         &mut ||
             requires { IsSync R.row × All (IsNew set.now 4) seats.now }
-            ensures { All (IsSeatOf set.entry.now) seats.exit.now }
+            ensures { All (IsSeatOf set.entry.now) seats.exit.now × (length seats.exit.now ≡ length seats.entry.now) }
         { push_at_once(rt, set, seats, 4, 8, 200, published) },
     );
     released
