@@ -1,6 +1,6 @@
 -- A board with one queue.
-use Rattle.std.proofs.Common.{◌≡◌, inl, inr, ℕ, zero, suc, ◌<◌, ◌≤◌, List, [], ◌∷◌, map, length, replicate, slice_index, refl, sym, ap, ◌∙◌, subst, arith}
-use Rattle.std.proofs.lemmas.List.{length-map}
+use Rattle.std.proofs.Common.{◌≡◌, inl, inr, ℕ, zero, suc, ◌<◌, ◌≤◌, List, [], ◌∷◌, ◌++◌, map, length, length-append, get_or, take, drop, slice_index, refl, sym, ap, ◌∙◌, subst, arith}
+use Rattle.std.proofs.lemmas.List.{length-map, map-append}
 use mathlib.Core.Option.{some}
 use lib.ListN.{get_elem?}
 use Rattle.std.specs.Prelude.{All}
@@ -10,27 +10,32 @@ use Rattle.event_queue.specs.declared.view.Lay.{Lay}
 use Rattle.event_queue.specs.declared.set.QueueSet.{QueueSet}
 use Rattle.event_queue.specs.declared.seat.SourceSeat.{SourceSeat}
 use Rattle.event_queue.specs.declared.seat.KernelSeat.{KernelSeat}
-use Rattle.event_queue.specs.Calls.{mine_of, next_of, released_of}
+use Rattle.event_queue.specs.Calls.{released_of}
 use Rattle.event_queue.specs.Views.{places_of, queue_of, lay_of, calls_of}
 use Rattle.event_queue.specs.Rule.{IsLay}
 use Rattle.event_queue.specs.Seats.{view, kernel_view, ring_of, lay_in, IsOfShape, AreNewSources, IsNewSource, IsNewKernel}
 use Rattle.event_queue.proofs.Basics.{at_get}
-use Rattle.queue_rows.specs.Rounds.{IsOneQueue, IsAfter, IsAt}
+use Rattle.queue_rows.specs.Rounds.{firsts, IsOneQueue, IsNew, IsAt}
 
-zeros : (n i : ℕ) (t : ThreadId) → t.0 ≡ 0 → slice_index (map (λ (x : ThreadId). x.0) (replicate n t)) i ≡ 0
-zeros zero i t is = refl
-zeros (suc n) zero t is = is
-zeros (suc n) (suc i) t is = zeros n i t is
+zeros : (n i : ℕ) → slice_index (map (λ (x : ThreadId). x.0) (firsts n)) i ≡ 0
+zeros zero i = refl
+zeros (suc n) i = ap (λ (xs : List ℕ). slice_index xs i) (map-append (λ (x : ThreadId). x.0) (firsts n) (record { 0 = 0 } ∷ [])) ∙ at_end (map (λ (x : ThreadId). x.0) (firsts n)) i (zeros n i)
+  where
+    at_end : (xs : List ℕ) (i : ℕ) → slice_index xs i ≡ 0 → slice_index (xs ++ 0 ∷ []) i ≡ 0
+    at_end [] zero h = refl
+    at_end [] (suc i) h = refl
+    at_end (x ∷ xs) zero h = h
+    at_end (x ∷ xs) (suc i) h = at_end xs i h
 
-length-replicate : {A : Type 0} (n : ℕ) (x : A) → length (replicate n x) ≡ n
-length-replicate zero x = refl
-length-replicate (suc n) x = omega (arith, length-replicate n x)
+length-firsts : (n : ℕ) → length (firsts n) ≡ n
+length-firsts zero = refl
+length-firsts (suc n) = omega (arith, length-firsts n, length-append (firsts n) (record { 0 = 0 } ∷ []))
 
-pub one_queue_is : (s : Shape) (places n : ℕ) → s.places.items ≡ places ∷ [] → s.sources.items ≡ replicate n (record { 0 = 0 }) → IsOneQueue (lay_of s) places n
-one_queue_is s places n a b = record {
+pub one_queue_is : (queues : List ℕ) (threads : List ThreadId) (places n : ℕ) → queues ≡ places ∷ [] → threads ≡ firsts n → IsOneQueue (record { queues = queues; sources = map (λ (t : ThreadId). t.0) threads }) places n
+one_queue_is queues threads places n a b = record {
   queues = a;
-  number = length-map s.sources.items (λ (t : ThreadId). t.0) ∙ ap length b ∙ length-replicate n (record { 0 = 0 });
-  same = λ i. ap (λ (xs : List ThreadId). slice_index (map (λ (t : ThreadId). t.0) xs) i) b ∙ zeros n i (record { 0 = 0 }) refl;
+  number = length-map threads (λ (t : ThreadId). t.0) ∙ ap length b ∙ length-firsts n;
+  same = λ i. ap (λ (xs : List ThreadId). slice_index (map (λ (t : ThreadId). t.0) xs) i) b ∙ zeros n i;
 }
 
 module _ {lay : Lay} {places n : ℕ} (one : IsOneQueue lay places n) where
@@ -50,21 +55,23 @@ module _ {lay : Lay} {places n : ℕ} (one : IsOneQueue lay places n) where
   ring_is : (s : SourceSeat) → (view s).lay ≡ lay → ring_of s ≡ places
   ring_is s same = ap (λ (z : Lay). places_of z (queue_of z s.source.0)) same ∙ ap (places_of lay) (one.same s.source.0) ∙ ap (λ (xs : List ℕ). slice_index xs 0) one.queues
 
-  pub all_new : (set : QueueSet) (seats : List SourceSeat) → lay_in set ≡ lay → AreNewSources set seats → All (IsAfter set places 0) seats
-  all_new set seats same new k d lt =
-      let h = new k _ (at_get seats k d lt) in
-      let s : SourceSeat = lib.ListN.get_or seats k d in
-      record {
-        of = h.of;
-        queue = ap (λ (z : Lay). queue_of z s.source.0) (h.of.1 ∙ same) ∙ one.same s.source.0;
-        ring = ring_is s (h.of.1 ∙ same);
-        next = ap next_of h.calls;
-        count = ap (λ (cs : List _). length (mine_of cs)) h.calls;
-      }
+pub opened_sources : (set : QueueSet) (shape : Shape) (places n : ℕ) (seats : List SourceSeat) → IsOfShape set shape → IsOneQueue (lay_of shape) places n → AreNewSources set seats → All (IsNew set places) seats
+opened_sources set shape places n seats same one new k d lt =
+    let s : SourceSeat = get_or seats k d in
+    let h = new k s (at_get seats k d lt) in
+    (h.of, ring_is one s (h.of.1 ∙ ap lay_of same), h.calls)
 
-  pub new_kernel : (set : QueueSet) (k : KernelSeat) → lay_in set ≡ lay → IsNewKernel set k → IsAt set 0 k
-  new_kernel set k same h = record {
-    of = h.of;
-    thread = omega (arith, ap (λ (z : Lay). length z.queues) (h.of.1 ∙ same), ap length one.queues);
-    released = ap (released_of 0) h.calls;
-  }
+pub opened_kernel : (set : QueueSet) (shape : Shape) (places n : ℕ) (k : KernelSeat) → IsOfShape set shape → IsOneQueue (lay_of shape) places n → IsNewKernel set k → IsAt set 0 k
+opened_kernel set shape places n k same one h =
+    let some : 0 < length (kernel_view k).lay.queues = omega (arith, ap (λ (z : Lay). length z.queues) (h.of.1 ∙ ap lay_of same), ap length one.queues) in
+    (h.of, some, ap (released_of 0) h.calls)
+
+-- what is written through a whole slice is all that the list has
+written_back : {A : Type 0} (n : ℕ) (new old : List A) → n ≡ length new → length new ≡ length old → take n (new ++ drop (length new) old) ≡ new
+written_back n [] [] e same = ap (λ (k : ℕ). take k []) e
+written_back n [] (y ∷ ys) e same = absurd (omega arith)
+written_back n (x ∷ xs) [] e same = absurd (omega arith)
+written_back n (x ∷ xs) (y ∷ ys) e same = ap (λ (k : ℕ). take k (x ∷ (xs ++ drop (length xs) ys))) e ∙ ap (λ (zs : List _). x ∷ zs) (written_back (length xs) xs ys refl (omega arith))
+
+pub all_back : {A : Type 0} (P : A → Type 0) (n : ℕ) (new old : List A) → n ≡ length new → length new ≡ length old → All P new → All P (take n (new ++ drop (length new) old))
+all_back P n new old e same all = subst (All P) (sym (written_back n new old e same)) all

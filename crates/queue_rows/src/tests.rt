@@ -1,13 +1,11 @@
 //! Runs of the shared queues.
 
-mod carrying;
 mod kinds;
 mod opening;
 mod rounds;
 mod served;
 mod threads;
 
-use carrying::there_and_back;
 use ink_base::NoMemory;
 use kinds::words_after;
 use opening::open;
@@ -66,21 +64,6 @@ fn a_hundred_runs_account_for_each_reading(rt: HostRuntime) -> Result<(), Fail> 
     Ok(())
 }
 
-/// Two sources and the kernel, which tell each other by notes. Answers the value that the kernel finds after the last note.
-fn told_by_notes(alloc: Global) -> Result<Option<u32>, NoMemory> {
-    let (set, mut kernel, mut seats, _clock) = open(alloc, 4, 2)?;
-    let (Some(mut second), Some(mut first)) = (seats.pop(), seats.pop()) else {
-        return Ok(None);
-    };
-    Ok(there_and_back(&set, &mut kernel, &mut first, &mut second))
-}
-
-#[test]
-fn a_count_goes_from_the_kernel_to_a_source_and_back(rt: HostRuntime) -> Result<(), Fail> {
-    assert_eq!(rt; told_by_notes(rt.alloc())?, Some(8));
-    Ok(())
-}
-
 #[test]
 fn finish_gives_the_words_after_each_kind_of_step(rt: HostRuntime) -> Result<(), Fail> {
     let free = [0, 0, 1 << 42, 0, 0];
@@ -102,7 +85,7 @@ fn finish_gives_the_words_after_each_kind_of_step(rt: HostRuntime) -> Result<(),
         (5, 4, 0, released),
         (5, 4, 5, ticked),
     ] {
-        let got = words_after(rt.alloc(), source, kernel, ticks)?;
+        let got = words_after(&rt, rt.alloc(), source, kernel, ticks)?;
         assert!(rt; got.as_slice() == words.as_slice());
     }
     Ok(())

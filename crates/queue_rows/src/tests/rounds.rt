@@ -1,53 +1,54 @@
 //! Rounds of a source and of the kernel on a set with one queue.
-ghost use Rattle.std.specs.Prelude.{◌≡◌, ◌+◌, ◌<◌, ◌≤◌, ℕ, MatchBool, MatchOption};
+ghost use Rattle.std.specs.Prelude.{◌≡◌, ◌+◌, ◌<◌, ◌≤◌, [], true, false, length, OnSome, IsNone};
 ghost use Rattle.push_core.specs.Slots.{slot_in};
-ghost use Rattle.event_queue.specs.Calls.{published_by};
-ghost use Rattle.event_queue.specs.Views.{out_of};
-ghost use Rattle.event_queue.specs.Seats.{view, ring_of, IsSeatOf};
-ghost use Rattle.queue_rows.specs.Rounds.{IsAfter, IsAt};
+ghost use Rattle.event_queue.specs.Calls.{mine_of, next_of, released_of, published_by};
+ghost use Rattle.event_queue.specs.Views.{calls_of, out_of};
+ghost use Rattle.event_queue.specs.Seats.{view, kernel_view, ring_of, IsSeatOf, IsKernelSeatOf};
+ghost use Rattle.queue_rows.specs.Rounds.{IsNew, IsAt};
 
 use crate::tests::served::Served;
 use event_queue::{KernelSeat, QueueSet, Seen, SourceSeat};
 use ink_base::{Event, ThreadId};
-use push_core::{Slot, empty, read_slot};
+use push_core::{Slot, read_slot};
 
-/// Moves the tail past a position where a word that was found there is an event of it.
-fn help(set: &QueueSet, seat: &mut SourceSeat, position: u32, word: u64)
+/// One round of a source: the tail, its slot, an exchange of the slot where it is free, and one of the tail past an event of its
+/// position. Answers whether the reading was published.
+fn round(set: &QueueSet, seat: &mut SourceSeat, places: u8, reading: u32) -> bool
     requires seat { IsSeatOf set.now seat.old }
-    requires shown { published_by (ring_of seat.old) (slot_in word) ≤ out_of (view seat.old) seat.old.source.0 }
-    ensures { (places readings : ℕ) → IsAfter set.now places readings seat.old → IsAfter set.now places readings seat.new }
-{
-    match read_slot(word) {
-        Some(Slot::Full { position: held, .. }) if held == position => {
-            let _ = seat.help_tail(set, position);
-        }
-        _ => {}
-    }
-}
-
-/// One round of a source: the tail, its slot, an exchange of the slot where it is free, and one of the tail. Answers whether the reading
-/// was published.
-fn round(set: &QueueSet, seat: &mut SourceSeat, places: u8, reading: u32, value: u32) -> bool
-    requires after { IsAfter set.now places reading seat.old }
+    requires ring { ring_of seat.old ≡ places }
     requires places { 0 < places }
+    requires later { next_of (calls_of (view seat.old)) ≤ reading }
+    requires count { length (mine_of (calls_of (view seat.old))) ≡ reading }
     requires few { reading < 64 }
-    ensures { MatchBool result (IsAfter set.now places (reading + 1) seat.new) (IsAfter set.now places reading seat.new) }
+    ensures seat { IsSeatOf set.now seat.new }
+    ensures ring { ring_of seat.new ≡ places }
+    ensures done { result ≡ true → (next_of (calls_of (view seat.new)) ≡ reading + 1) × (length (mine_of (calls_of (view seat.new))) ≡ reading + 1) }
+    ensures same { result ≡ false → (next_of (calls_of (view seat.new)) ≡ next_of (calls_of (view seat.old))) × (length (mine_of (calls_of (view seat.new))) ≡ reading) }
 {
     let position = seat.load_tail(set) as u32;
-    let word = seat.load_slot(set, (position % places as u32) as u8);
-    if word != empty(position) {
-        help(set, seat, position, word);
-        return false;
-    }
-    match seat.publish(set, position, reading, reading as u8, value) {
-        Ok(()) => {
-            let _ = seat.help_tail(set, position);
-            true
+    let slot = (position % places as u32) as u8;
+    match read_slot(seat.load_slot(set, slot)) {
+        Some(Slot::Empty { position: free }) if free == position => {
+            match seat.publish(set, position, reading, reading as u8, reading) {
+                Ok(()) => {
+                    let _ = seat.help_tail(set, position);
+                    true
+                }
+                Err(_) => false,
+            }
         }
-        Err(lost) => {
-            help(set, seat, position, lost.word);
+        Some(
+            Slot::Full {
+                position: held,
+                source: _,
+                count: _,
+                value: _,
+            },
+        ) if held == position => {
+            let _ = seat.help_tail(set, position);
             false
         }
+        _ => false,
     }
 }
 
@@ -59,14 +60,16 @@ pub fn push_all(
     readings: u32,
     rounds: u32,
 ) -> u32
-    requires after { IsAfter set.now places 0 seat.old }
+    requires seat { IsSeatOf set.now seat.old }
+    requires ring { ring_of seat.old ≡ places }
+    requires new { calls_of (view seat.old) ≡ [] }
     requires places { 0 < places }
     requires few { readings ≤ 64 }
-    ensures { IsAfter set.now places result seat.new }
+    ensures { IsSeatOf set.now seat.new }
 {
     let mut reading = 0;
     for _ in 0..rounds {
-        if reading < readings && round(set, seat, places, reading, reading) {
+        if reading < readings && round(set, seat, places, reading) {
             reading += 1;
         }
     }
@@ -75,8 +78,12 @@ pub fn push_all(
 
 /// Looks for the event at the next position; where it is there, acknowledges and releases it.
 fn take_next(set: &QueueSet, kernel: &mut KernelSeat, position: u32) -> Option<Event>
-    requires { IsAt set.now position kernel.old }
-    ensures { MatchOption result (λ _. IsAt set.now (position + 1) kernel.new) (IsAt set.now position kernel.new) }
+    requires seat { IsKernelSeatOf set.now kernel.old }
+    requires thread { 0 < length (kernel_view kernel.old).lay.queues }
+    requires position { position ≡ released_of 0 (calls_of (kernel_view kernel.old)) }
+    ensures seat { IsKernelSeatOf set.now kernel.new × ((kernel_view kernel.new).lay ≡ (kernel_view kernel.old).lay) }
+    ensures some { OnSome result (released_of 0 (calls_of (kernel_view kernel.new)) ≡ position + 1) }
+    ensures none { IsNone result → released_of 0 (calls_of (kernel_view kernel.new)) ≡ position }
 {
     match kernel.look(set, ThreadId(0), position) {
         Seen::Full(event) => {
@@ -88,13 +95,16 @@ fn take_next(set: &QueueSet, kernel: &mut KernelSeat, position: u32) -> Option<E
     }
 }
 
-/// Takes the events that so many looks find, and answers how many they are.
+/// Takes the events that so many looks find, up to 64, and answers how many they are.
 pub fn take_all(set: &QueueSet, kernel: &mut KernelSeat, looks: u32, served: &mut Served) -> u32
     requires { IsAt set.now 0 kernel.old }
     ensures { IsAt set.now result kernel.new }
 {
     let mut position = 0;
     for _ in 0..looks {
+        if position == 64 {
+            break;
+        }
         if let Some(event) = take_next(set, kernel, position) {
             served.take(&event);
             position += 1;

@@ -72,7 +72,7 @@ fn see_slots(words: &[u64], released: u32, published: u32, served: &mut Served) 
 pub fn accounts(words: &[u64], released: u32, published: u32, served: &mut Served) -> bool {
     let acks = served.next;
     let tail = word(words, 0);
-    let near = tail == published as u64 || tail + 1 == published as u64;
+    let near = tail == published as u64 || tail.saturating_add(1) == published as u64;
     let acknowledged = (0..4usize).all(|i| word(words, 5 + i) == acks[i] as u64);
     near && acknowledged
         && word(words, 9) == 0

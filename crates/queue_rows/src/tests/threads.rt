@@ -1,8 +1,8 @@
 //! The sources and the kernel in threads of their own.
-ghost use Rattle.std.specs.Prelude.{◌≡◌, ◌<◌, ◌≤◌, All};
+ghost use Rattle.std.specs.Prelude.{◌≡◌, ◌<◌, ◌≤◌, All, length};
 ghost use Rattle.std.specs.Thread.{IsSync};
 ghost use Rattle.event_queue.specs.Seats.{IsSeatOf, IsKernelSeatOf};
-ghost use Rattle.queue_rows.specs.Rounds.{IsAfter, IsAt};
+ghost use Rattle.queue_rows.specs.Rounds.{IsNew, IsAt};
 
 use crate::tests::rounds::{push_all, take_all};
 use crate::tests::served::Served;
@@ -19,7 +19,7 @@ fn publish(
     rounds: u32,
     published: &AtomicU32,
 )
-    requires after { IsAfter set.now places 0 seat.old }
+    requires after { IsNew set.now places seat.old }
     requires places { 0 < places }
     requires few { readings ≤ 64 }
     ensures { IsSeatOf set.now seat.new }
@@ -38,10 +38,11 @@ pub fn push_at_once<R: Threads + Sync>(
     rounds: u32,
     published: &AtomicU32,
 )
-    requires after { All (IsAfter set.now places 0) seats.old }
+    requires after { All (IsNew set.now places) seats.old }
     requires places { 0 < places }
     requires few { readings ≤ 64 }
-    ensures { All (IsSeatOf set.now) seats.new }
+    ensures seats { All (IsSeatOf set.now) seats.new }
+    ensures number { length seats.new ≡ length seats.old }
 {
     for_each_mut(
         rt,
@@ -61,20 +62,21 @@ pub fn all_at_once<R: Threads + Sync>(
     served: &mut Served,
 ) -> u32
     requires kernel { IsAt set.now 0 kernel.old }
-    requires seats { All (IsAfter set.now 4 0) seats.old }
+    requires seats { All (IsNew set.now 4) seats.old }
     ensures kernel { IsAt set.now result kernel.new }
     ensures seats { All (IsSeatOf set.now) seats.new }
+    ensures number { length seats.new ≡ length seats.old }
 {
     let mut released = 0;
     join_mut(
         rt,
         &mut ||
             requires { IsAt set.now 0 kernel.now }
-            ensures { IsAt set.entry.now released.exit.now kernel.exit.now }
+            ensures { IsAt set.entry.now released.exit kernel.exit.now }
         { released = take_all(set, kernel, 400, served) },
         &mut ||
-            requires { IsSync R.row × All (IsAfter set.now 4 0) seats.now }
-            ensures { All (IsSeatOf set.entry.now) seats.exit.now }
+            requires { IsSync R.row × All (IsNew set.now 4) seats.now }
+            ensures { All (IsSeatOf set.entry.now) seats.exit.now × (length seats.exit.now ≡ length seats.entry.now) }
         { push_at_once(rt, set, seats, 4, 8, 200, published) },
     );
     released

@@ -1,0 +1,6 @@
+use Rattle.std.proofs.Common.{◌≡◌, ◌++◌}
+use Rattle.queue_rows.specs.Rounds.{firsts}
+use Rattle.queue_rows.proofs.tests.opening.push_firsts.Given as goal
+
+abbrev pub invariant-loop : goal.invariant-loop
+invariant-loop l = l.threads.items ≡ l.initial.threads.items ++ firsts l.counter

@@ -1,0 +1,9 @@
+use Rattle.std.proofs.Common.{◌≡◌, ◌≤◌, length}
+use Rattle.event_queue.specs.Calls.{mine_of, next_of}
+use Rattle.event_queue.specs.Seats.{view, ring_of, IsSeatOf}
+use Rattle.event_queue.specs.Views.{calls_of}
+use Rattle.queue_rows.proofs.tests.rounds.push_all.Given as goal
+
+abbrev pub invariant-loop : goal.invariant-loop
+invariant-loop l =
+    IsSeatOf l.set l.seat × (ring_of l.seat ≡ l.places) × (l.reading ≤ l.readings) × (next_of (calls_of (view l.seat)) ≤ l.reading) × (length (mine_of (calls_of (view l.seat))) ≡ l.reading)

@@ -1,0 +1,6 @@
+use Rattle.std.proofs.Common.{◌≤◌}
+use Rattle.queue_rows.specs.Rounds.{IsAt}
+use Rattle.queue_rows.proofs.tests.rounds.take_all.Given as goal
+
+abbrev pub invariant-loop : goal.invariant-loop
+invariant-loop l = IsAt l.set l.position l.kernel × (l.position ≤ 64)
