@@ -8,7 +8,7 @@ ghost use Rattle.task_run.specs.Fits.{FitsChain, FitsExecution, FitsOrigin, Fits
 use crate::fixtures::plan;
 use fram_words::{Access, Fram, ThreadPlace};
 use ink_base::{Addr, Origin, TaskId};
-use ink_layout::{KernelPoint, Plan, first_image};
+use ink_layout::{KernelPoint, Pick, Plan, first_image};
 use std::alloc::Global;
 use task_isa::{Program, ThreadDef};
 use task_run::{Execution, Phase, Sending, TaskMachine};
@@ -171,7 +171,8 @@ fn step(plan: &Plan, fram: &mut Fram, machine: &mut TaskMachine) -> Option<Kerne
 }
 
 // The numbers of the first accesses that commit and that release, counted from 1; 0 for none.
-fn numbers(plan: &Plan, fram: &mut Fram, mut machine: TaskMachine) -> (u32, u32) {
+fn numbers(plan: &Plan, fram: &mut Fram, pick: Pick, stamp: u64) -> (u32, u32) {
+    let mut machine = TaskMachine::begin(pick, stamp);
     let mut committed = 0;
     for n in 1..200 {
         match step(plan, fram, &mut machine) {
@@ -238,16 +239,16 @@ pub(crate) struct Served {
     pub item: Option<u64>,
 }
 
-// The service of a pick on the words of a board.
+// The service of a pick on the words of a board, after so many commits.
 fn served_on(
     plan: &Plan,
     fram: &mut Fram,
-    machine: TaskMachine,
+    pick: Pick,
+    stamp: u64,
     words: [u32; 4],
 ) -> Option<Served> {
-    let thread = machine.pick.thread.0 as usize;
-    let numbers = numbers(plan, fram, machine);
-    let place = plan.layout.threads.as_slice().get(thread)?;
+    let numbers = numbers(plan, fram, pick, stamp);
+    let place = plan.layout.threads.as_slice().get(pick.thread.0 as usize)?;
     Some(Served {
         numbers,
         headers: headers(place, fram, words)?,
@@ -256,14 +257,15 @@ fn served_on(
     })
 }
 
-/// The service of a pick on the first image of a job's program, and these words of the thread's header after it.
+/// The service of a pick on the first image of a job's program, after so many commits, and these words of the thread's header after it.
 pub(crate) fn serve(
     alloc: Global,
     text: &[u8],
-    machine: TaskMachine,
+    pick: Pick,
+    stamp: u64,
     words: [u32; 4],
 ) -> Option<Served> {
     let plan = plan(alloc, text).ok()?;
     let mut fram = first_image(alloc, &plan.accepted, &plan.layout).ok()?;
-    served_on(&plan, &mut fram, machine, words)
+    served_on(&plan, &mut fram, pick, stamp, words)
 }

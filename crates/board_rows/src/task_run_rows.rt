@@ -5,7 +5,6 @@ use crate::task_board::serve;
 use ink_base::{Event, Origin, PipeId, SourceId, TaskId, ThreadId, TimerId};
 use ink_layout::Pick;
 use std::test::Fail;
-use task_run::TaskMachine;
 
 // The pick of an event, in a scan at tick 100.
 fn pick(thread: u8, origin: Origin, value: u32) -> Pick {
@@ -37,8 +36,7 @@ const ENDS: [u32; 4] = [1, 5, 6, 8];
 // 48 accesses copy pages, 3 write the event, 12 are the task's and 5 its end's; then come the commit, the acknowledgement and the release.
 #[test]
 fn a_service_commits_at_its_69th_access(rt: HostRuntime) -> Result<(), Fail> {
-    let machine = TaskMachine::begin(queued(7), 0);
-    let served = serve(rt.alloc(), SUMMING, machine, ENDS).ok_or("not served")?;
+    let served = serve(rt.alloc(), SUMMING, queued(7), 0, ENDS).ok_or("not served")?;
     assert_eq!(rt; served.numbers, (69, 71));
     Ok(())
 }
@@ -46,32 +44,31 @@ fn a_service_commits_at_its_69th_access(rt: HostRuntime) -> Result<(), Fail> {
 // 48 accesses copy pages 0, 1 and 3, and 3 write the event. The instructions make 1, 6, 4, 3, 2, 4, 4 and 1, the end 2 and the commit 1.
 #[test]
 fn a_task_sends_sets_timers_and_goes_on(rt: HostRuntime) -> Result<(), Fail> {
-    let machine = TaskMachine::begin(queued(7), 0);
     // The next task, the finished and served events, the items sent.
-    let sent = serve(rt.alloc(), SENDING, machine, [1, 5, 6, 10]).ok_or("not served")?;
+    let sent = serve(rt.alloc(), SENDING, queued(7), 0, [1, 5, 6, 10]).ok_or("not served")?;
     assert_eq!(rt; sent.numbers, (79, 0));
     assert_eq!(rt; sent.headers, [2, 0, 0, 1]);
     assert_eq!(rt; sent.item, Some(7));
     assert_eq!(rt; sent.outputs, [(1 << 32) + 1, 1 << 32]);
     // Each timer's word and period.
-    let set = serve(rt.alloc(), SENDING, machine, [26, 27, 28, 29]).ok_or("not served")?;
+    let set = serve(rt.alloc(), SENDING, queued(7), 0, [26, 27, 28, 29]).ok_or("not served")?;
     assert_eq!(rt; set.headers, [108, 1, 0, 10]);
     Ok(())
 }
 
-// A running chain of thread a, which began at tick 100.
-fn chain(time: u64) -> TaskMachine {
+// The pick of a running chain of thread a, which began at tick 100.
+fn chain(time: u64) -> Pick {
     let mut pick = queued(9);
     pick.running = Some(TaskId(1));
     pick.first = 100;
     pick.time = time;
-    TaskMachine::begin(pick, 1)
+    pick
 }
 
 // 32 accesses copy pages 1 and 0. The instructions make 1, 4 and 1, the end 5; then come the commit, the acknowledgement and the release.
 #[test]
 fn a_chain_goes_on_within_its_ticks(rt: HostRuntime) -> Result<(), Fail> {
-    let served = serve(rt.alloc(), SENDING, chain(105), ENDS).ok_or("not served")?;
+    let served = serve(rt.alloc(), SENDING, chain(105), 1, ENDS).ok_or("not served")?;
     assert_eq!(rt; served.numbers, (44, 46));
     assert_eq!(rt; served.headers, [0, 1, 1, 0]);
     assert_eq!(rt; served.outputs, [(2 << 32) + 9, 0]);
@@ -81,7 +78,7 @@ fn a_chain_goes_on_within_its_ticks(rt: HostRuntime) -> Result<(), Fail> {
 // 32 accesses copy pages 0 and 1, the end makes 5, and no instruction is loaded.
 #[test]
 fn an_expired_chain_runs_no_task(rt: HostRuntime) -> Result<(), Fail> {
-    let served = serve(rt.alloc(), SENDING, chain(106), ENDS).ok_or("not served")?;
+    let served = serve(rt.alloc(), SENDING, chain(106), 1, ENDS).ok_or("not served")?;
     assert_eq!(rt; served.numbers, (38, 40));
     assert_eq!(rt; served.headers, [0, 1, 0, 1]);
     assert_eq!(rt; served.outputs, [0, 0]);
@@ -95,30 +92,29 @@ fn an_item_is_taken_from_its_pipe(rt: HostRuntime) -> Result<(), Fail> {
         pipe: PipeId(0),
         item: 0,
     };
-    let machine = TaskMachine::begin(pick(1, origin, 7), 0);
     // The origin, the finished and served events, the items taken.
-    let served = serve(rt.alloc(), SENDING, machine, [3, 5, 6, 18]).ok_or("not served")?;
+    let served = serve(rt.alloc(), SENDING, pick(1, origin, 7), 0, [3, 5, 6, 18]).ok_or("not served")?;
     assert_eq!(rt; served.numbers, (63, 0));
     assert_eq!(rt; served.headers, [2 << 56, 0, 1, 1]);
     assert_eq!(rt; served.outputs, [(1 << 32) + 7, 0]);
     Ok(())
 }
 
-// The service of a timer of thread b that is due at tick 20.
-fn due(timer: u8) -> TaskMachine {
+// The pick of a timer of thread b that is due at tick 20.
+fn due(timer: u8) -> Pick {
     let origin = Origin::Timer {
         timer: TimerId(timer),
         deadline: 20,
     };
     let mut pick = pick(1, origin, 20);
     pick.due_word = 21;
-    TaskMachine::begin(pick, 0)
+    pick
 }
 
 // As many accesses as for an item, and one more for the period. Then a timer's word and period, the finished and served events.
 #[test]
 fn a_timer_goes_on_by_its_period(rt: HostRuntime) -> Result<(), Fail> {
-    let served = serve(rt.alloc(), SENDING, due(2), [30, 31, 5, 6]).ok_or("not served")?;
+    let served = serve(rt.alloc(), SENDING, due(2), 0, [30, 31, 5, 6]).ok_or("not served")?;
     assert_eq!(rt; served.numbers, (64, 0));
     assert_eq!(rt; served.headers, [31, 10, 0, 1]);
     Ok(())
@@ -126,7 +122,7 @@ fn a_timer_goes_on_by_its_period(rt: HostRuntime) -> Result<(), Fail> {
 
 #[test]
 fn a_timer_without_a_period_is_off(rt: HostRuntime) -> Result<(), Fail> {
-    let served = serve(rt.alloc(), SENDING, due(3), [32, 33, 5, 6]).ok_or("not served")?;
+    let served = serve(rt.alloc(), SENDING, due(3), 0, [32, 33, 5, 6]).ok_or("not served")?;
     assert_eq!(rt; served.numbers, (64, 0));
     assert_eq!(rt; served.headers, [0, 0, 0, 1]);
     Ok(())
