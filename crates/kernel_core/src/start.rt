@@ -14,7 +14,7 @@ ghost use Rattle.kernel_core.specs.Starts.{IsFirstRecord, AreFirstPushers, AreFi
 use crate::board::{Core, turns_in};
 use crate::recording::Recording;
 use crate::run_record::RecordRoom;
-use fram_words::Fram;
+use fram_words::{Fram, Place};
 use ink_base::{NoMemory, SourceId};
 use ink_layout::{Plan, first_image};
 use power_trace::Job;
@@ -92,12 +92,12 @@ fn port_at(job: &Job, plan: &Plan, i: usize) -> Port
     ensures right { IsPort result }
 {
     let thread = plan.program().sources.as_slice()[i];
-    let queue = plan.layout.queues.as_slice()[thread.0 as usize];
+    let source = SourceId(i as u8);
     Port {
-        source: SourceId(i as u8),
-        queue,
-        ack: plan.layout.acks + i as u32,
-        src: plan.layout.srcs + i as u32,
+        source,
+        queue: plan.layout.queues.as_slice()[thread.0 as usize],
+        ack: plan.address(Place::Ack { source }),
+        src: plan.address(Place::Src { source }),
     }
 }
 

@@ -1,16 +1,13 @@
-use Rattle.std.proofs.Common.{◌+◌, List, get_or, ap, ◌∙◌, subst, arith}
+use Rattle.std.proofs.Common.{List, get_or, sym, ap, ◌∙◌, subst}
 use Rattle.task_isa.specs.declared.program.Program.{Program}
 use Rattle.std.proofs.lemmas.List.{get_or_default}
 use Rattle.ink_base.specs.declared.ids.ThreadId.{ThreadId}
+use Rattle.push_core.specs.Table.{IsPort}
 use Rattle.prog_check.specs.Lookup.{no_thread}
 use Rattle.prog_check.specs.Accepted.{IsAccepted}
 use Rattle.ink_layout.specs.Layouts.{IsLayout}
-use Rattle.kernel_core.proofs.Starts.{srcs_fit, port_is}
+use Rattle.kernel_core.proofs.Starts.{port_is, right_port}
 use Rattle.kernel_core.proofs.start.port_at.Goals as goal
-
-pub overflow_add-result-2 : goal.overflow_add-result-2
-overflow_add-result-2 c = let fit = srcs_fit c.args.job.now c.args.plan.now.layout c.args.i (subst (λ (p : Program). IsAccepted p) c.requires.plan c.program.ensures.accepted)
-    (subst (λ (p : Program). IsLayout p c.args.plan.now.layout) c.requires.plan c.program.ensures.layout) c.requires.known in omega (arith, fit)
 
 pub returns-clause-port : goal.returns-clause-port
 returns-clause-port c =
@@ -19,8 +16,12 @@ returns-clause-port c =
     (λ k. record {
       source = record { 0 = c.args.i };
       queue = get_or (c.as_slice-2.ensures k) (thread k).0 (record { tail = 0; slots = 0; places = 0 });
-      ack = c.args.plan.now.layout.acks + c.args.i;
-      src = c.args.plan.now.layout.srcs + c.args.i;
+      ack = c.address.ensures k;
+      src = c.address-2.ensures k;
     })
     ∙ port_is c.args.job.now c.args.plan.now.layout c.args.i (subst (λ (p : Program). IsAccepted p) c.requires.plan c.program.ensures.accepted)
     (subst (λ (p : Program). IsLayout p c.args.plan.now.layout) c.requires.plan c.program.ensures.layout) c.requires.known
+
+pub returns-clause-right : goal.returns-clause-right
+returns-clause-right c =
+    subst IsPort (sym (returns-clause-port c)) (right_port c.args.job.now (subst (λ (p : Program). IsAccepted p) c.requires.plan c.program.ensures.accepted) c.args.i c.requires.known)
