@@ -3,7 +3,7 @@
 use crate::ids::SourceId;
 
 /// Whose turn an access to the FRAM is.
-#[derive(Clone, Copy, Debug, PartialEq, Eq)]
+#[derive(Clone, Copy)]
 pub enum Actor {
     /// The kernel.
     Kernel,

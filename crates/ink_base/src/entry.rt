@@ -3,7 +3,7 @@
 use crate::ids::{SourceId, ThreadId};
 
 /// An entry of the journal of a run.
-#[derive(Clone, Copy, Debug, PartialEq, Eq)]
+#[derive(Clone, Copy)]
 pub enum Entry {
     /// The source's next reading is in the queue of its thread.
     Push { source: SourceId },

@@ -37,7 +37,7 @@ pub struct JobFault {
 }
 
 /// Why a text gives no job.
-#[derive(Clone, Copy, Debug, PartialEq, Eq)]
+#[derive(Clone, Copy, Debug)]
 pub enum JobAnswer {
     /// The first fault of the text.
     Fault(JobFault),

@@ -28,6 +28,3 @@ pub use phase::job_tokens;
 pub use split::split_tokens;
 pub use status::Status;
 pub use token::{TextAnswer, Token, Tokens};
-
-#[cfg(test)]
-mod tests;

@@ -9,7 +9,7 @@ use crate::memory::NoMemory;
 use std::alloc::{AllocError, AllocFailed};
 
 /// Why a line was not read: its first fault from the left, or no memory.
-#[derive(Clone, Copy, Debug, PartialEq, Eq)]
+#[derive(Clone, Copy)]
 pub enum LineError {
     /// The first fault of the line.
     Fault(Cause),

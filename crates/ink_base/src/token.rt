@@ -6,7 +6,7 @@ ghost use Rattle.ink_base.specs.declared.token.TextAnswer.TheVariants.{NoMemory 
 use std::alloc::{AllocError, AllocFailed};
 
 /// A word of a text: the number of its line, counted from 1, its first byte and the byte behind it.
-#[derive(Clone, Copy, Debug, PartialEq, Eq)]
+#[derive(Clone, Copy)]
 pub struct Token {
     pub line: u32,
     pub start: u32,
@@ -14,14 +14,14 @@ pub struct Token {
 }
 
 /// The words of a text in order, and the number of its lines.
-#[derive(Debug, Drop)]
+#[derive(Drop)]
 pub struct Tokens {
     pub list: Vec<Token>,
     pub lines: u32,
 }
 
 /// Why a text has no tokens.
-#[derive(Clone, Copy, Debug, PartialEq, Eq)]
+#[derive(Clone, Copy)]
 pub enum TextAnswer {
     /// The offset of the first byte that no text has.
     NotAscii { offset: u32 },

@@ -5,7 +5,7 @@ use Rattle.ink_base.specs.declared.entry.Entry.{Entry}
 use Rattle.ink_base.specs.declared.entry.Entry.TheVariants.{Scan}
 use Rattle.task_isa.specs.declared.program.Program.{Program}
 use Rattle.ink_layout.specs.Image.{IsFirstImage}
-use Rattle.power_trace.specs.Job.{JobParts, IsJob}
+use Rattle.job_parts.specs.Job.{JobParts, IsJob}
 use Rattle.never_cut.specs.declared.model.Model.{Model}
 use Rattle.never_cut.specs.State.{open_model}
 use Rattle.never_cut.specs.Entries.{Readings, Legal, effect}

@@ -6,7 +6,7 @@ use Rattle.ink_base.specs.declared.status.Status.{Status}
 use Rattle.ink_base.specs.declared.status.Status.TheVariants.{Done, Usage, Refused, ReadFault, WriteFault, NoMemory, TooLong}
 use Rattle.ink_io.specs.Bytes.{TookCount, TookAtMost, AppendsPrefix}
 use Rattle.ink_io.specs.Counts.{Rose}
-use Rattle.power_trace.specs.Job.{JobParts}
+use Rattle.job_parts.specs.Job.{JobParts}
 use Rattle.power_trace.specs.Parse.{job_at}
 use Rattle.ink_modes.specs.declared.command.Command.{Command}
 use Rattle.ink_modes.specs.declared.command.Command.TheVariants.{Run, Soak, Print}

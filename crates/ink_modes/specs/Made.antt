@@ -1,9 +1,9 @@
 -- What a command makes, and of which job.
 use Rattle.std.specs.Prelude.{◌≡◌, ℕ, List, [], Some, None, Ok}
-use Rattle.power_trace.specs.Job.{JobParts}
+use Rattle.job_parts.specs.Job.{JobParts}
 use Rattle.power_trace.specs.Parse.{job_at}
 use Rattle.power_trace.specs.Soak.{soak_of}
-use Rattle.task_asm.specs.Print.{print_of}
+use Rattle.program_text.specs.Print.{print_of}
 use Rattle.ink_modes.specs.declared.command.Command.{Command}
 use Rattle.ink_modes.specs.declared.command.Command.TheVariants as commands
 use Rattle.ink_modes.specs.declared.finish.Record.{Record}

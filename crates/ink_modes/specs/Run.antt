@@ -3,7 +3,7 @@ use Rattle.std.specs.Prelude.{◌≡◌, ℕ, ◌^◌, ◌<◌, List, ◌++◌, 
 use Rattle.std.specs.List.{flat_map}
 use Rattle.ink_base.specs.declared.entry.Entry.{Entry}
 use Rattle.ink_layout.specs.Image.{IsFirstImage}
-use Rattle.power_trace.specs.Job.{JobParts}
+use Rattle.job_parts.specs.Job.{JobParts}
 use Rattle.never_cut.specs.State.{open_model}
 use Rattle.never_cut.specs.Journal.{after, IsLegal}
 use Rattle.never_cut.specs.Laws.{ReadingsInOrder, EachEventOnce, StatesByCommits, StampsByCommits}

@@ -15,7 +15,7 @@ use ink_report::Flags;
 use kernel_core::{RunRecord, prepare};
 use power_trace::{Job, parse_job};
 use std::alloc::Global;
-use task_asm::print_program;
+use program_text::print_program;
 
 /// The record of a command, and its text.
 #[derive(Drop)]

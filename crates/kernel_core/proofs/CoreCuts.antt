@@ -9,7 +9,7 @@ use Rattle.fram_words.specs.declared.layout.Layout.{Layout}
 use Rattle.fram_words.specs.Words.{performed}
 use Rattle.push_core.specs.Table.{first_row}
 use Rattle.push_core.specs.declared.pusher.Pusher.{Pusher}
-use Rattle.power_trace.specs.Job.{JobParts}
+use Rattle.job_parts.specs.Job.{JobParts}
 use Rattle.kernel_core.specs.declared.kernel.Kernel.{Kernel}
 use Rattle.kernel_core.specs.Kernel.{first_kernel}
 use Rattle.kernel_core.specs.Record.{ChargeRecord, charge_of, not_begun, begun, journal_of}

@@ -2,8 +2,8 @@
 use Rattle.std.proofs.Common.{◌≡◌, ℕ, zero, suc, ◌+◌, ◌<◌, ◌≤◌, List, [], ◌∷◌, length, take, get_or, sum_by, refl, ap, arith}
 use Rattle.std.proofs.lemmas.List.{get_or_read}
 use Rattle.std.proofs.lemmas.List.Sums.{sum_by-take-drop, sum_by-drop_more}
-use Rattle.power_trace.specs.declared.charge.Charge.{Charge}
-use Rattle.power_trace.specs.Job.{JobParts, IsJob, item_turns}
+use Rattle.job_parts.specs.declared.charge.Charge.{Charge}
+use Rattle.job_parts.specs.Job.{JobParts, IsJob, item_turns}
 use Rattle.kernel_core.specs.Core.{no_charge, turns_in, turns_from}
 
 -- no more turns stand in the charges from one on than in all

@@ -6,9 +6,9 @@ use Rattle.std.proofs.lemmas.List.Elements.{All-get_or}
 use Rattle.std.proofs.lemmas.List.Sums.{sum_by-drop_more}
 use Rattle.ink_base.specs.declared.actor.Actor.{Actor}
 use Rattle.ink_base.specs.declared.actor.Actor.TheVariants as actors
-use Rattle.power_trace.specs.declared.charge.Charge.{Charge}
-use Rattle.power_trace.specs.declared.item.Item.{Item}
-use Rattle.power_trace.specs.Job.{JobParts, IsJob, IsOnBoard, IsRightCharge, item_turns}
+use Rattle.job_parts.specs.declared.charge.Charge.{Charge}
+use Rattle.job_parts.specs.declared.item.Item.{Item}
+use Rattle.job_parts.specs.Job.{JobParts, IsJob, IsOnBoard, IsRightCharge, item_turns}
 use Rattle.kernel_core.specs.Board.{Setup, Board, Move, Turn, turn, move, moved_by}
 use Rattle.kernel_core.specs.Listed.{turns_of, moves_of}
 use Rattle.kernel_core.specs.Moves.{IsActor}

@@ -18,7 +18,7 @@ use Rattle.push_core.specs.declared.stage.Stage.{Stage}
 use Rattle.push_core.specs.declared.stage.Stage.TheVariants.{LoadSrc, LoadSlots, LoadAck, LoadTail, LoadSlot, Publish, MoveTail, HelpTail, StoreSkip, StoreAccepted}
 use Rattle.push_core.specs.declared.pusher.Pusher.{Pusher}
 use Rattle.push_core.specs.declared.point.Point.{Point}
-use Rattle.power_trace.specs.Job.{JobParts}
+use Rattle.job_parts.specs.Job.{JobParts}
 use Rattle.source_laws.specs.Rows.{access, port_of}
 use Rattle.source_laws.proofs.Ports.{access_of-port}
 use Rattle.source_laws.proofs.Fits.{row_fits, answer_fits}

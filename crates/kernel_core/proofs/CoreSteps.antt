@@ -23,7 +23,7 @@ use Rattle.never_cut.specs.Actors.{IsAllowed}
 use Rattle.never_cut.specs.Within.{Lasts}
 use Rattle.never_cut.proofs.Lasting.{lasts_less}
 use Rattle.push_core.specs.declared.pusher.Pusher.{Pusher}
-use Rattle.power_trace.specs.Job.{JobParts}
+use Rattle.job_parts.specs.Job.{JobParts}
 use Rattle.reboot.proofs.Ranges.{boot_in_range}
 use Rattle.priority_sched.proofs.Ranges.{scan_in_range}
 use Rattle.task_run.proofs.Ranges.{every_task_fits}

@@ -8,9 +8,9 @@ use Rattle.ink_base.specs.declared.entry.Entry.{Entry}
 use Rattle.ink_base.specs.declared.entry.Entry.TheVariants.{Tick}
 use Rattle.ink_layout.specs.Image.{IsFirstImage}
 use Rattle.ink_layout.specs.Points.{entry_of_point}
-use Rattle.power_trace.specs.declared.charge.Charge.{Charge}
-use Rattle.power_trace.specs.declared.item.Item.{Item}
-use Rattle.power_trace.specs.Job.{JobParts, IsJob}
+use Rattle.job_parts.specs.declared.charge.Charge.{Charge}
+use Rattle.job_parts.specs.declared.item.Item.{Item}
+use Rattle.job_parts.specs.Job.{JobParts, IsJob}
 use Rattle.push_core.specs.Table.{is_left, point_of}
 use Rattle.source_laws.specs.Rows.{port_of}
 use Rattle.never_cut.specs.Entries.{readings_of}

@@ -7,9 +7,9 @@ use Rattle.std.proofs.lemmas.List.Elements.{All-get_or, All-head, All-tail}
 use Rattle.std.proofs.lemmas.List.Sums.{sum_by-cons}
 use Rattle.ink_base.specs.declared.actor.Actor.{Actor}
 use Rattle.ink_layout.specs.Image.{IsFirstImage}
-use Rattle.power_trace.specs.declared.charge.Charge.{Charge}
-use Rattle.power_trace.specs.declared.item.Item.{Item}
-use Rattle.power_trace.specs.Job.{JobParts, IsJob, IsOnBoard, IsRightCharge, AreReadings, item_turns, charge_turns}
+use Rattle.job_parts.specs.declared.charge.Charge.{Charge}
+use Rattle.job_parts.specs.declared.item.Item.{Item}
+use Rattle.job_parts.specs.Job.{JobParts, IsJob, IsOnBoard, IsRightCharge, AreReadings, item_turns, charge_turns}
 use Rattle.never_cut.specs.Entries.{readings_of}
 use Rattle.never_cut.specs.State.{open_model}
 use Rattle.never_cut.specs.Within.{AreShort}

@@ -14,7 +14,7 @@ use Rattle.push_core.specs.Table.{is_left, point_of}
 use Rattle.push_core.specs.declared.point.Point.{Point}
 use Rattle.push_core.specs.declared.point.Point.TheVariants as sources
 use Rattle.source_laws.specs.Rows.{port_of}
-use Rattle.power_trace.specs.Job.{JobParts, IsJob}
+use Rattle.job_parts.specs.Job.{JobParts, IsJob}
 use Rattle.never_cut.specs.Entries.{readings_of}
 use Rattle.never_cut.specs.Journal.{noted}
 use Rattle.reboot.specs.declared.boot_at.BootAt.{BootAt}

@@ -19,7 +19,7 @@ use Rattle.ink_layout.proofs.Bounds.{few_words}
 use Rattle.kernel_core.proofs.Sides.{places_same}
 use Rattle.ink_layout.specs.Image.{IsFirstImage}
 use Rattle.ink_layout.specs.Layouts.{IsLayout}
-use Rattle.power_trace.specs.Job.{JobParts, IsJob}
+use Rattle.job_parts.specs.Job.{JobParts, IsJob}
 use Rattle.kernel_core.specs.Kernel.{first_kernel}
 use Rattle.kernel_core.specs.Record.{ChargeRecord, not_begun}
 use Rattle.kernel_core.specs.Recorded.{Recorded}

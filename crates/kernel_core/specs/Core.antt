@@ -2,10 +2,10 @@
 use Rattle.std.specs.Prelude.{◌≡◌, ℕ, ◌+◌, ◌-◌, ◌*◌, ◌^◌, ◌<◌, ◌≤◌, List, length, map, drop, slice_index, slice_index_or, []}
 use Rattle.fram_words.specs.declared.layout.Layout.{Layout}
 use Rattle.ink_layout.specs.Layouts.{IsLayout}
-use Rattle.power_trace.specs.Job.{JobParts, item_turns, charge_turns}
+use Rattle.job_parts.specs.Job.{JobParts, item_turns, charge_turns}
 use Rattle.ink_base.specs.declared.actor.Actor.TheVariants as actors
-use Rattle.power_trace.specs.declared.charge.Charge.{Charge}
-use Rattle.power_trace.specs.declared.item.Item.{Item}
+use Rattle.job_parts.specs.declared.charge.Charge.{Charge}
+use Rattle.job_parts.specs.declared.item.Item.{Item}
 use Rattle.push_core.specs.Table.{first_row, IsPort}
 use Rattle.push_core.specs.declared.row.Row.{Row}
 use Rattle.push_core.specs.declared.pusher.Pusher.{Pusher}

@@ -1,8 +1,8 @@
 -- The cuts and turns that a job lists, and the board after them.
 use Rattle.std.specs.Prelude.{ℕ, List, ◌∷◌, length, take, replicate}
 use Rattle.std.specs.List.{flat_map}
-use Rattle.power_trace.specs.declared.charge.Charge.{Charge}
-use Rattle.power_trace.specs.declared.item.Item.{Item}
+use Rattle.job_parts.specs.declared.charge.Charge.{Charge}
+use Rattle.job_parts.specs.declared.item.Item.{Item}
 use Rattle.kernel_core.specs.Board.{Setup, Board, Move, Cut, Turn, moved_by, first_board}
 
 abbrev pub turns_of : Item → List Move

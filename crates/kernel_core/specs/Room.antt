@@ -1,7 +1,7 @@
 -- For how many charges and words there is room in a record.
 use Rattle.std.specs.Prelude.{ℕ, ◌≤◌, length}
 use Rattle.fram_words.specs.declared.layout.Layout.{Layout}
-use Rattle.power_trace.specs.Job.{JobParts}
+use Rattle.job_parts.specs.Job.{JobParts}
 
 pub record Room : Type 0 where
   pub charges : ℕ

@@ -2,7 +2,7 @@
 use Rattle.std.specs.Prelude.{◌≡◌, ℕ, ◌<◌, List, length, slice_index_or}
 use Rattle.push_core.specs.Table.{first_row}
 use Rattle.push_core.specs.declared.pusher.Pusher.{Pusher}
-use Rattle.power_trace.specs.Job.{JobParts}
+use Rattle.job_parts.specs.Job.{JobParts}
 use Rattle.source_laws.specs.Rows.{port_of}
 use Rattle.kernel_core.specs.Record.{not_begun}
 use Rattle.kernel_core.specs.Recorded.{Recorded}

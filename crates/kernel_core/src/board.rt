@@ -10,7 +10,7 @@ ghost use Rattle.kernel_core.specs.Board.{first_board, turn, cut, kernel_turn, c
 ghost use Rattle.kernel_core.specs.Holds.{BoardStands};
 ghost use Rattle.kernel_core.specs.Moves.{IsActor};
 ghost use Rattle.kernel_core.specs.Made.{made_by, kernel_made, access_made, source_makes, clock_made, nothing_made};
-ghost use Rattle.power_trace.specs.Job.{IsJob};
+ghost use Rattle.job_parts.specs.Job.{IsJob};
 ghost use Rattle.kernel_core.specs.Room.{HasRoom};
 ghost use Rattle.kernel_core.specs.Starts.{AreFirstPushers, AreFirstRecords};
 ghost use Rattle.kernel_core.specs.Core.{View, IsCore, setup_of, row_in, charge_in, rebooted, turns_in};
@@ -23,7 +23,7 @@ use crate::start::Start;
 use fram_words::{Access, Fram};
 use ink_base::{Actor, Entry, SourceId};
 use ink_layout::{KernelPoint, Plan};
-use power_trace::Job;
+use job_parts::Job;
 use push_core::{Point, Pusher, Row};
 use std::marker::Model;
 use task_run::read_code_back;

@@ -1,6 +1,6 @@
 //! A whole run of a job.
 ghost use Rattle.std.specs.Prelude.{◌≡◌, ◌+◌, ◌<◌, ◌≤◌, length, slice_index_or};
-ghost use Rattle.power_trace.specs.Job.{item_turns};
+ghost use Rattle.job_parts.specs.Job.{item_turns};
 ghost use Rattle.kernel_core.specs.Board.{moved_by};
 ghost use Rattle.kernel_core.specs.Holds.{BoardStands};
 ghost use Rattle.kernel_core.specs.Listed.{moves, moves_of, turns_of};
@@ -8,7 +8,7 @@ ghost use Rattle.kernel_core.specs.Moves.{IsActor};
 ghost use Rattle.kernel_core.specs.Core.{setup_of, charge_def, no_item};
 
 use crate::board::Core;
-use power_trace::{Item, Job};
+use job_parts::{Item, Job};
 
 impl Core {
     /// The whole run of the job: for each charge in order a cut with its dark ticks, and then the turns of its items in order.

@@ -7,13 +7,13 @@ use crate::charge_record::ChargeRecord;
 use crate::recording::Recording;
 use fram_words::Fram;
 use ink_base::NoMemory;
-use power_trace::Job;
+use job_parts::Job;
 use sqlite_items::Items;
 use std::alloc::Global;
 use std::marker::Model;
 
 /// The job of a run, what each of its charges left behind, in order, and the words of the FRAM at its end, by address.
-#[derive(Debug, Drop)]
+#[derive(Drop)]
 pub struct RunRecord {
     pub job: Job,
     pub charges: Items<ChargeRecord>,

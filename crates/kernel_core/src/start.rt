@@ -7,7 +7,7 @@ ghost use Rattle.task_run.specs.Knows.{HasCode};
 ghost use Rattle.kernel_core.specs.Board.{sides, first_board};
 ghost use Rattle.kernel_core.specs.Holds.{BoardStands};
 ghost use Rattle.kernel_core.specs.Core.{setup_of};
-ghost use Rattle.power_trace.specs.Job.{IsJob};
+ghost use Rattle.job_parts.specs.Job.{IsJob};
 ghost use Rattle.kernel_core.specs.Room.{HasRoom};
 ghost use Rattle.kernel_core.specs.Starts.{IsFirstRecord, AreFirstPushers, AreFirstRecords};
 
@@ -17,7 +17,7 @@ use crate::run_record::RecordRoom;
 use fram_words::{Fram, Place};
 use ink_base::{NoMemory, SourceId};
 use ink_layout::{Plan, first_image};
-use power_trace::Job;
+use job_parts::Job;
 use push_core::{Port, Pusher};
 use std::alloc::Global;
 

@@ -1,7 +1,7 @@
 -- What is drawn from a later state.
 use Rattle.std.proofs.Common.{◌≡◌, ℕ, zero, suc, ◌+◌, ◌*◌, ◌/◌, ◌^◌, List, [], ◌∷◌, ◌++◌, refl, sym, ap, ◌∙◌, add-one, zero-add}
 use Rattle.std.proofs.Math.Nat.{add-zero, add-suc}
-use Rattle.power_trace.specs.declared.charge.Charge.{Charge}
+use Rattle.job_parts.specs.declared.charge.Charge.{Charge}
 use Rattle.power_trace.specs.Soak.{next_state, state_after, draw, draws, drawn_charge, drawn_charges}
 
 state_after-add : (x m n : ℕ) → state_after (state_after x m) n ≡ state_after x (m + n)

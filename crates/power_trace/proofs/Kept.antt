@@ -13,7 +13,7 @@ use Rattle.ink_base.specs.Gives.{◌>>=◌, ◌>>◌, at_line}
 use Rattle.ink_base.specs.Checks.{number_of, word_in}
 use Rattle.power_trace.specs.Walks.{words_in, lines_in, header_end, up_to}
 use Rattle.power_trace.specs.Sensors.{index_of, below, source_of, known, value_in, sensor_line, power_header, sensors_end, sensors_in}
-use Rattle.power_trace.specs.Job.{AreReadings}
+use Rattle.job_parts.specs.Job.{AreReadings}
 use Rattle.power_trace.proofs.Inverted.{bound, bound_line, tested, words_keep, lines_keep, first_same}
 
 pub up_to-le : (greatest : ℕ) (w : Word) (n : ℕ) → up_to greatest w ≡ Ok n → n ≤ greatest

@@ -16,14 +16,14 @@ use Rattle.ink_base.specs.declared.fault.Cause.TheVariants.{OverLimit}
 use Rattle.ink_base.specs.declared.fault.JobFault.{JobFault}
 use Rattle.ink_base.specs.Gives.{◌>>=◌, ◌>>◌, at_line}
 use Rattle.ink_base.specs.Checks.{number_of, word_in, fixed_in, number_in}
-use Rattle.power_trace.specs.declared.item.Item.{Item}
-use Rattle.power_trace.specs.declared.charge.Charge.{Charge}
+use Rattle.job_parts.specs.declared.item.Item.{Item}
+use Rattle.job_parts.specs.declared.charge.Charge.{Charge}
 use Rattle.power_trace.specs.declared.charges.Charges.{Charges}
 use Rattle.power_trace.specs.declared.charges.Turns.{Turns}
 use Rattle.power_trace.specs.Walks.{words_in, lines_in, header_end}
 use Rattle.power_trace.specs.Sensors.{source_of}
 use Rattle.power_trace.specs.Power.{actor_of, known_actor, cut, count_at, item_of, item_in, room_in, charge_line, power_end, power_in}
-use Rattle.power_trace.specs.Job.{IsOnBoard, IsRightCharge, item_turns, charge_turns, AreCharges}
+use Rattle.job_parts.specs.Job.{IsOnBoard, IsRightCharge, item_turns, charge_turns, AreCharges}
 use Rattle.power_trace.proofs.Inverted.{bound, bound_line, tested, tested_not, words_keep, lines_keep}
 use Rattle.power_trace.proofs.Kept.{source_below, known_is}
 

@@ -4,10 +4,10 @@ use Rattle.std.specs.List.{All}
 use Rattle.std.proofs.lemmas.Nat.{mod_below, shr_below}
 use Rattle.std.proofs.lemmas.List.Elements.{All-nil, All-push, All-from_recursion}
 use Rattle.std.proofs.lemmas.List.Sums.{sum_by_push}
-use Rattle.power_trace.specs.declared.item.Item.{Item}
-use Rattle.power_trace.specs.declared.charge.Charge.{Charge}
+use Rattle.job_parts.specs.declared.item.Item.{Item}
+use Rattle.job_parts.specs.declared.charge.Charge.{Charge}
 use Rattle.prog_check.specs.Accepted.{IsAccepted}
-use Rattle.power_trace.specs.Job.{JobParts, AreReadings, IsOnBoard, IsRightCharge, item_turns, charge_turns, AreCharges, IsJob}
+use Rattle.job_parts.specs.Job.{JobParts, AreReadings, IsOnBoard, IsRightCharge, item_turns, charge_turns, AreCharges, IsJob}
 use Rattle.power_trace.specs.Soak.{state_after, draw, draws, drawn_items, drawn_charge, drawn_charges, last_charge, soak_readings, soak_charges, soak_program}
 
 draw_below : (x n : ℕ) → draw x n < 2 ^ 16

@@ -10,7 +10,7 @@ use Rattle.prog_check.specs.Faults.{first_fault}
 use Rattle.task_asm.specs.Section.{program_at}
 use Rattle.power_trace.specs.Sensors.{sensors_in}
 use Rattle.power_trace.specs.Power.{power_in}
-use Rattle.power_trace.specs.Job.{JobParts}
+use Rattle.job_parts.specs.Job.{JobParts}
 
 abbrev pub unless_fault : Program → Option JobFault → Result Program JobFault
 unless_fault program None = Ok program

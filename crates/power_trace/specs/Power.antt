@@ -11,8 +11,8 @@ use Rattle.ink_base.specs.declared.fault.Cause.TheVariants.{OverLimit, Missing, 
 use Rattle.ink_base.specs.declared.fault.JobFault.{JobFault}
 use Rattle.ink_base.specs.Gives.{◌>>=◌, ◌>>◌, at_line}
 use Rattle.ink_base.specs.Checks.{fixed_in, number_in}
-use Rattle.power_trace.specs.declared.item.Item.{Item}
-use Rattle.power_trace.specs.declared.charge.Charge.{Charge}
+use Rattle.job_parts.specs.declared.item.Item.{Item}
+use Rattle.job_parts.specs.declared.charge.Charge.{Charge}
 use Rattle.power_trace.specs.declared.charges.Charges.{Charges}
 use Rattle.power_trace.specs.declared.charges.Turns.{Turns}
 use Rattle.power_trace.specs.Walks.{words_in, lines_in, header_end, up_to}

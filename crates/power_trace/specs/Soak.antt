@@ -4,9 +4,9 @@ use Rattle.ink_base.specs.declared.actor.Actor.TheVariants.{Kernel, Source, Cloc
 use Rattle.task_isa.specs.declared.instr.Instr.{Instr}
 use Rattle.task_isa.specs.declared.instr.Instr.TheVariants.{Li, Ld, Ev, Add, St, Out, Done}
 use Rattle.task_isa.specs.declared.program.Program.{Program}
-use Rattle.power_trace.specs.declared.item.Item.{Item}
-use Rattle.power_trace.specs.declared.charge.Charge.{Charge}
-use Rattle.power_trace.specs.Job.{JobParts}
+use Rattle.job_parts.specs.declared.item.Item.{Item}
+use Rattle.job_parts.specs.declared.charge.Charge.{Charge}
+use Rattle.job_parts.specs.Job.{JobParts}
 
 -- the state of the generator behind one more draw
 abbrev pub next_state : ℕ → ℕ

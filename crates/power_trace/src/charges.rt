@@ -6,13 +6,12 @@ ghost use Rattle.ink_base.specs.Gives.{Gives, Leaves};
 ghost use Rattle.power_trace.specs.Walks.{words_in};
 ghost use Rattle.power_trace.specs.Power.{known_actor, cut, count_at, item_of, item_in, room_in, charge_line};
 
-use crate::charge::Charge;
-use crate::item::Item;
 use crate::names::actor;
 use crate::numbers::up_to;
 use crate::section::Section;
 use ink_base::checks::{fixed, number, word};
 use ink_base::{Actor, Cause, LineError, Token};
+use job_parts::{Charge, Item};
 use sqlite_items::Items;
 use std::alloc::Global;
 

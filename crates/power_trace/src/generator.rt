@@ -3,9 +3,8 @@
 ghost use Rattle.std.specs.Prelude.{◌≡◌, ◌/◌, ◌^◌, IfOk};
 ghost use Rattle.power_trace.specs.Soak.{next_state, state_after, draws, drawn_charge};
 
-use crate::charge::Charge;
-use crate::item::Item;
 use ink_base::{Actor, NoMemory, SourceId};
+use job_parts::{Charge, Item};
 use sqlite_items::Items;
 use std::alloc::Global;
 

@@ -4,10 +4,10 @@ ghost use Rattle.std.specs.Prelude.{◌≡◌, ◌≤◌, length};
 ghost use Rattle.ink_base.specs.Gives.{GivesJob};
 ghost use Rattle.power_trace.specs.Parse.{checked, listed_at, job_at};
 
-use crate::job::Job;
 use crate::power::read_power;
 use crate::sensors::read_sensors;
 use ink_base::{JobAnswer, job_tokens};
+use job_parts::Job;
 use prog_check::{Accepted, check};
 use std::alloc::Global;
 use task_asm::read_program;

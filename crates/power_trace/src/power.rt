@@ -7,12 +7,12 @@ ghost use Rattle.ink_base.specs.TokenLines.{token_lines};
 ghost use Rattle.ink_base.specs.Tokens.{AreTokens};
 ghost use Rattle.power_trace.specs.Power.{power_end, power_in};
 
-use crate::charge::Charge;
 use crate::charges::Charges;
 use crate::headers::{judged_end, missing};
 use crate::section::read_lines;
 use ink_base::lines::split_line;
 use ink_base::{Cause, JobAnswer, JobFault, Token, Tokens};
+use job_parts::Charge;
 use prog_check::Accepted;
 use sqlite_items::Items;
 use std::alloc::Global;

@@ -3,12 +3,10 @@
 ghost use Rattle.std.specs.Prelude.{◌≡◌, IfOk};
 ghost use Rattle.power_trace.specs.Soak.{last_charge, soak_readings, soak_charges, soak_of};
 
-use crate::charge::Charge;
 use crate::generator::{Generator, drawn_charge, drawn_readings};
-use crate::item::Item;
-use crate::job::Job;
 use crate::soak_program::soak_program;
 use ink_base::{Actor, NoMemory, SourceId};
+use job_parts::{Charge, Item, Job};
 use sqlite_items::Items;
 use std::alloc::Global;
 

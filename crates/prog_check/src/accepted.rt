@@ -7,7 +7,7 @@ use std::marker::Model;
 use task_isa::Program;
 
 /// A program within the limits whose owners and targets are right. Contracts see it as the program.
-#[derive(Debug, Drop)]
+#[derive(Drop)]
 pub struct Accepted {
     program: Program,
 }

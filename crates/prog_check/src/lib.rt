@@ -16,6 +16,3 @@ mod try_copy;
 pub use accepted::Accepted;
 pub use judge::check;
 pub use try_copy::{TryCopy, copies};
-
-#[cfg(test)]
-mod tests;

@@ -9,7 +9,3 @@ pub mod Outside
 pub mod Task
 pub mod Targets
 pub mod Section
-pub mod Print
-pub mod Marks
-pub mod Typed
-pub mod Reread

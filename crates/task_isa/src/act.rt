@@ -4,7 +4,7 @@ use crate::outcome::TrapCode;
 use crate::reg::Reg;
 
 /// What one instruction does, read off the registers and the event that is served.
-#[derive(Clone, Copy, Debug, PartialEq, Eq)]
+#[derive(Clone, Copy)]
 pub enum Act {
     /// The register becomes the value, and the next instruction follows.
     Sets {

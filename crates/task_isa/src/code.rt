@@ -142,37 +142,3 @@ fn form(op: u8, a: Reg, b: Reg, c: Reg, i: u32) -> Option<Instr>
         30.. => None,
     }
 }
-
-#[cfg(test)]
-mod tests {
-    use super::*;
-    use std::test::Fail;
-
-    fn sum() -> Instr {
-        Instr::Add {
-            a: Reg::new(2),
-            b: Reg::new(2),
-            c: Reg::new(3),
-        }
-    }
-
-    #[test]
-    fn words_of_two_instructions(rt: HostRuntime) -> Result<(), Fail> {
-        let seven = Instr::Li {
-            a: Reg::new(1),
-            i: 7,
-        };
-        assert_eq!(rt; encode(seven), 0x0000_0007_0000_0101);
-        assert_eq!(rt; encode(sum()), 0x0000_0000_0003_2203);
-        assert_eq!(rt; decode(0x0000_0000_0003_2203), Some(sum()));
-        Ok(())
-    }
-
-    #[test]
-    fn no_instruction_has_these_words(rt: HostRuntime) -> Result<(), Fail> {
-        assert_eq!(rt; decode(0), None);
-        assert_eq!(rt; decode(0x0000_0007_0010_0101), None);
-        assert_eq!(rt; decode(30), None);
-        Ok(())
-    }
-}

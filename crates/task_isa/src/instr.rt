@@ -4,7 +4,7 @@ use crate::reg::Reg;
 
 /// One instruction. `a`, `b` and `c` are its registers; `i` is a number for `Li`, the offset of an instruction of the task
 /// for the jumps, and else the number of a pipe, timer or task.
-#[derive(Clone, Copy, Debug, PartialEq, Eq)]
+#[derive(Clone, Copy)]
 pub enum Instr {
     /// `a` becomes the number.
     Li { a: Reg, i: u32 },

@@ -3,7 +3,7 @@
 use sqlite_items::Items;
 
 /// The lines of a program's text, counted from 1: of its header, of each thread and task, and of each task's instructions.
-#[derive(Debug, Drop)]
+#[derive(Drop)]
 pub struct Lines {
     pub program: u32,
     pub threads: Items<u32>,

@@ -5,7 +5,7 @@ use std::alloc::Global;
 use std::marker::Model;
 
 /// A name: a letter followed by at most 15 letters, digits or `_`.
-#[derive(Debug, Drop)]
+#[derive(Drop)]
 pub struct Name {
     bytes: Vec<u8>,
 }

@@ -3,7 +3,7 @@
 use ink_base::TaskId;
 
 /// Why a task traps.
-#[derive(Clone, Copy, Debug, PartialEq, Eq)]
+#[derive(Clone, Copy)]
 pub enum TrapCode {
     /// A division by zero.
     Divisor,
@@ -16,7 +16,7 @@ pub enum TrapCode {
 }
 
 /// How a task ends.
-#[derive(Clone, Copy, Debug, PartialEq, Eq)]
+#[derive(Clone, Copy)]
 pub enum Outcome {
     /// The chain goes on with this task.
     Next(TaskId),

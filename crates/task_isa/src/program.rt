@@ -7,7 +7,7 @@ use sqlite_items::Items;
 
 /// A thread: its priority (a greater number is served first), the places of its queue, its state numbers, the places of its
 /// output log, and after how many ticks a chain of it expires, if it does.
-#[derive(Debug, Drop)]
+#[derive(Drop)]
 pub struct ThreadDef {
     pub name: Name,
     pub priority: u8,
@@ -18,7 +18,7 @@ pub struct ThreadDef {
 }
 
 /// A pipe of so many places, from the thread that writes it to the thread that reads it.
-#[derive(Debug, Drop)]
+#[derive(Drop)]
 pub struct PipeDef {
     pub name: Name,
     pub places: u8,
@@ -27,7 +27,7 @@ pub struct PipeDef {
 }
 
 /// A timer of a thread: the tick at which it is first due, none where it is off at the start, and its period, 0 for a one-shot.
-#[derive(Debug, Drop)]
+#[derive(Drop)]
 pub struct TimerDef {
     pub name: Name,
     pub thread: ThreadId,
@@ -36,7 +36,7 @@ pub struct TimerDef {
 }
 
 /// A task of a thread: how many instructions it may execute, and its code.
-#[derive(Debug, Drop)]
+#[derive(Drop)]
 pub struct Task {
     pub name: Name,
     pub thread: ThreadId,
@@ -45,7 +45,7 @@ pub struct Task {
 }
 
 /// A task program. A source is given by the thread that it feeds.
-#[derive(Debug, Drop)]
+#[derive(Drop)]
 pub struct Program {
     pub threads: Items<ThreadDef>,
     pub sources: Items<ThreadId>,

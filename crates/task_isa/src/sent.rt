@@ -3,7 +3,7 @@
 use ink_base::PipeId;
 
 /// A value that a task sends to a pipe.
-#[derive(Clone, Copy, Debug, PartialEq, Eq)]
+#[derive(Clone, Copy)]
 pub struct Sent {
     pub pipe: PipeId,
     pub value: u32,

@@ -7,7 +7,7 @@ use sqlite_items::Items;
 
 /// What a task leaves behind: how it ended, its thread's state, what it sent, put out and set, each in order, and how many instructions
 /// it executed. With a trap the state is the one that it began with, and the three lists are empty.
-#[derive(Debug, Drop)]
+#[derive(Drop)]
 pub struct TaskEnd {
     pub outcome: Outcome,
     pub state: Items<u32>,

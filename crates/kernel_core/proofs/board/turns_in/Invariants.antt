@@ -1,5 +1,5 @@
 use Rattle.std.proofs.Common.{◌≡◌, take}
-use Rattle.power_trace.specs.Job.{item_turns}
+use Rattle.job_parts.specs.Job.{item_turns}
 use Rattle.kernel_core.proofs.board.turns_in.Given as goal
 
 abbrev pub invariant-loop-item : goal.invariant-loop-item

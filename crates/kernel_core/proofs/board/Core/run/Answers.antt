@@ -1,6 +1,6 @@
 use Rattle.std.proofs.Common.{◌<◌, ◌≤◌, length, refl, sym, ap, ◌∙◌, subst, arith}
 use Rattle.std.specs.List.{flat_map}
-use Rattle.power_trace.specs.Job.{JobParts}
+use Rattle.job_parts.specs.Job.{JobParts}
 use Rattle.kernel_core.specs.Board.{moved_by}
 use Rattle.kernel_core.specs.Listed.{moves_of}
 use Rattle.kernel_core.specs.Core.{setup_of, charge_def}

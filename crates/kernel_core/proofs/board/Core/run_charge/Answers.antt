@@ -1,7 +1,7 @@
 use Rattle.std.proofs.Common.{◌≡◌, ◌+◌, ◌<◌, ◌≤◌, length, get_or, refl, sym, ap, ◌∙◌, subst, arith}
 use Rattle.std.specs.List.{flat_map}
-use Rattle.power_trace.specs.Job.{JobParts}
-use Rattle.power_trace.specs.declared.item.Item.{Item}
+use Rattle.job_parts.specs.Job.{JobParts}
+use Rattle.job_parts.specs.declared.item.Item.{Item}
 use Rattle.kernel_core.specs.Board.{Board, cut, moved_by}
 use Rattle.kernel_core.specs.Listed.{turns_of}
 use Rattle.kernel_core.specs.Moves.{IsActor}

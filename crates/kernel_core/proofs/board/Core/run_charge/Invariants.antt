@@ -1,6 +1,6 @@
 use Rattle.std.proofs.Common.{◌≡◌, ◌≤◌, take, drop}
 use Rattle.std.specs.List.{flat_map}
-use Rattle.power_trace.specs.Job.{item_turns}
+use Rattle.job_parts.specs.Job.{item_turns}
 use Rattle.kernel_core.specs.Board.{moved_by}
 use Rattle.kernel_core.specs.Listed.{turns_of}
 use Rattle.kernel_core.specs.Core.{setup_of, charge_def}

@@ -1,5 +1,5 @@
 use Rattle.std.proofs.Common.{◌≡◌, replicate, refl, sym, ap, ◌∙◌, subst, arith}
-use Rattle.power_trace.specs.Job.{JobParts}
+use Rattle.job_parts.specs.Job.{JobParts}
 use Rattle.kernel_core.specs.Board.{Board, Turn, turn, moved_by}
 use Rattle.kernel_core.specs.Moves.{IsActor}
 use Rattle.kernel_core.specs.Core.{setup_of}

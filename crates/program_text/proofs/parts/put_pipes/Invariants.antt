@@ -1,0 +1,10 @@
+use Rattle.std.proofs.Common.{◌≡◌, ◌++◌, take}
+use Rattle.std.specs.Prelude.{flat_map}
+use Rattle.std.specs.List.{All}
+use Rattle.task_isa.specs.declared.program.PipeDef.{PipeDef}
+use Rattle.program_text.specs.Print.{pipe_text}
+use Rattle.program_text.specs.Typed.{IsNamed}
+use Rattle.program_text.proofs.parts.put_pipes.Given as goal
+
+abbrev pub invariant-loop-pipe : goal.invariant-loop-pipe
+invariant-loop-pipe l = (l.out.items ≡ l.fn.out.items ++ flat_map (pipe_text l.program) (take l.pipe-index l.pipes)) × All (λ (x : PipeDef). IsNamed x.name) (take l.pipe-index l.pipes)

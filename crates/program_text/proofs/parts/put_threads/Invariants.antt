@@ -1,0 +1,10 @@
+use Rattle.std.proofs.Common.{◌≡◌, ◌++◌, take}
+use Rattle.std.specs.Prelude.{flat_map}
+use Rattle.std.specs.List.{All}
+use Rattle.task_isa.specs.declared.program.ThreadDef.{ThreadDef}
+use Rattle.program_text.specs.Print.{thread_text}
+use Rattle.program_text.specs.Typed.{IsNamed}
+use Rattle.program_text.proofs.parts.put_threads.Given as goal
+
+abbrev pub invariant-loop-thread : goal.invariant-loop-thread
+invariant-loop-thread l = (l.out.items ≡ l.fn.out.items ++ flat_map thread_text (take l.thread-index l.threads)) × All (λ (x : ThreadDef). IsNamed x.name) (take l.thread-index l.threads)

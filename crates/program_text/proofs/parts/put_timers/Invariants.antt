@@ -1,0 +1,10 @@
+use Rattle.std.proofs.Common.{◌≡◌, ◌++◌, take}
+use Rattle.std.specs.Prelude.{flat_map}
+use Rattle.std.specs.List.{All}
+use Rattle.task_isa.specs.declared.program.TimerDef.{TimerDef}
+use Rattle.program_text.specs.Print.{timer_text}
+use Rattle.program_text.specs.Typed.{IsNamed}
+use Rattle.program_text.proofs.parts.put_timers.Given as goal
+
+abbrev pub invariant-loop-timer : goal.invariant-loop-timer
+invariant-loop-timer l = (l.out.items ≡ l.fn.out.items ++ flat_map (timer_text l.program) (take l.timer-index l.timers)) × All (λ (x : TimerDef). IsNamed x.name) (take l.timer-index l.timers)

@@ -1,0 +1,4 @@
+pub mod Print
+pub mod Marks
+pub mod Typed
+pub mod Reread

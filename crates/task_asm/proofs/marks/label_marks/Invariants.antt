@@ -1,6 +1,0 @@
-use Rattle.std.proofs.Common.{length, take}
-use Rattle.task_asm.specs.Marks.{AreMarks}
-use Rattle.task_asm.proofs.marks.label_marks.Given as goal
-
-abbrev pub invariant-loop-instr : goal.invariant-loop-instr
-invariant-loop-instr l = AreMarks l.marks.items (length l.code) (take l.instr-index l.code)

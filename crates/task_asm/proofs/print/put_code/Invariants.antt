@@ -1,8 +1,0 @@
-use Rattle.std.proofs.Common.{◌≡◌, ◌++◌, take}
-use Rattle.std.specs.List.{All}
-use Rattle.task_isa.specs.Code.{IsInstr}
-use Rattle.task_asm.specs.Print.{each_below, line_text}
-use Rattle.task_asm.proofs.print.put_code.Given as goal
-
-abbrev pub invariant-loop-offset : goal.invariant-loop-offset
-invariant-loop-offset l = (l.out.items ≡ l.fn.out.items ++ each_below l.offset (line_text l.program l.task)) × All IsInstr (take l.offset l.task.code)

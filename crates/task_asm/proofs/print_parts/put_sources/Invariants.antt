@@ -1,7 +1,0 @@
-use Rattle.std.proofs.Common.{◌≡◌, ◌++◌, take}
-use Rattle.std.specs.Prelude.{flat_map}
-use Rattle.task_asm.specs.Print.{source_text}
-use Rattle.task_asm.proofs.print_parts.put_sources.Given as goal
-
-abbrev pub invariant-loop-source : goal.invariant-loop-source
-invariant-loop-source l = l.out.items ≡ l.fn.out.items ++ flat_map (source_text l.program) (take l.source-index l.sources)
