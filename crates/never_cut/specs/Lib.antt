@@ -14,3 +14,4 @@ pub mod Replaying
 pub mod Replay
 pub mod Laws
 pub mod Start
+pub mod Ranges
