@@ -15,3 +15,4 @@ pub mod Replay
 pub mod Laws
 pub mod Start
 pub mod Ranges
+pub mod Wanted

@@ -1,5 +1,5 @@
 -- Which words the accesses of the kernel may find: the ranges of loaded words, by place.
-use Rattle.std.specs.Prelude.{◌≡◌, ◌≢◌, ℕ, ◌+◌, ◌-◌, ◌*◌, ◌%◌, ◌^◌, ◌<◌, ◌≤◌, Bool, true, length, Option, Some, None}
+use Rattle.std.specs.Prelude.{◌≡◌, ◌≢◌, ℕ, ◌+◌, ◌-◌, ◌*◌, ◌%◌, ◌^◌, ◌<◌, ◌≤◌, Bool, true, false, length, Option, Some, None}
 use Rattle.std.specs.Option.{ForSome}
 use Rattle.ink_base.specs.declared.event.Event.{Event}
 use Rattle.ink_base.specs.declared.event.Origin.{Origin}
@@ -40,11 +40,11 @@ abbrev pub IsTaskOf : Program → (t task : ℕ) → Type 0
 IsTaskOf program t task = (task < length program.tasks) × ((task_def program task).thread.0 ≡ t)
 
 -- the position is one of the slot
-abbrev pub IsPositionOf : Program → (t slot p : ℕ) → Type 0
-IsPositionOf program t slot p = (p ≤ greatest_position) × (p % (thread_def program t).queue ≡ slot)
+abbrev pub IsPositionOf : Program → (t index p : ℕ) → Type 0
+IsPositionOf program t index p = (p ≤ greatest_position) × (p % (thread_def program t).queue ≡ index)
 
 -- a slot's word is read, its position is one of the slot, and its source one of the queue
-abbrev pub IsSlotOf : Program → (t slot : ℕ) → Option slot.Slot → Type 0
+abbrev pub IsSlotOf : Program → (t index : ℕ) → Option slot.Slot → Type 0
 IsSlotOf program t n None = ⊥
 IsSlotOf program t n (Some (slots.Empty p)) = IsPositionOf program t n p
 IsSlotOf program t n (Some (slots.Full p source count value)) =
@@ -55,6 +55,9 @@ pub record Loaded : Type 0 where
   pub time : ℕ
   pub running : Bool
   pub taken : Option ℕ
+
+abbrev pub nothing_loaded : Loaded
+nothing_loaded = record { time = 0; running = false; taken = None }
 
 -- from the taken count to that count plus the places of the pipe
 abbrev pub IsWrittenOf : Program → (q taken word : ℕ) → Type 0
