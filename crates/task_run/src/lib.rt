@@ -14,7 +14,6 @@ mod phase;
 mod pipe_at;
 mod sending;
 mod steps;
-
 mod want;
 
 pub use code::read_code_back;
