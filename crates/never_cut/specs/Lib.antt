@@ -14,3 +14,5 @@ pub mod Replaying
 pub mod Replay
 pub mod Laws
 pub mod Start
+pub mod Ranges
+pub mod Wanted

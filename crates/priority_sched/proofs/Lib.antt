@@ -13,3 +13,4 @@ pub mod Scans
 pub mod Ranges
 pub mod Ends
 pub mod Drifts
+pub mod Alone

@@ -1,5 +1,5 @@
 -- What a scan keeps, and what it has found at its end.
-use Rattle.std.specs.Prelude.{◌≡◌, ℕ, ◌+◌, ◌^◌, ◌<◌, length, Some, None}
+use Rattle.std.specs.Prelude.{◌≡◌, ℕ, ◌<◌, length, Some, None}
 use Rattle.task_isa.specs.declared.program.Program.{Program}
 use Rattle.fram_words.specs.Places.{Memory, answer}
 use Rattle.never_cut.specs.declared.model.Model.{Model}

@@ -3,3 +3,4 @@ pub mod Picks
 pub mod Scan
 pub mod Knows
 pub mod Laws
+pub mod Reached

@@ -1,10 +1,15 @@
 //! The scan of the kernel as a machine.
-ghost use Rattle.std.specs.Prelude.{◌≡◌};
+ghost use Rattle.std.specs.Prelude.{◌≡◌, ℕ};
+ghost use Rattle.std.specs.Option.{ForSome};
+ghost use Rattle.task_isa.specs.declared.program.Program.{Program};
 ghost use Rattle.fram_words.specs.Places.{Load};
 ghost use Rattle.fram_words.specs.Steps.{place_of};
 ghost use Rattle.prog_check.specs.Accepted.{IsAccepted};
 ghost use Rattle.ink_layout.specs.Addresses.{at_layout};
 ghost use Rattle.ink_layout.specs.Shape.{IsOnBoard};
+ghost use Rattle.never_cut.specs.Ranges.{IsAnswerTo};
+ghost use Rattle.never_cut.specs.Wanted.{IsSlotWanted};
+ghost use Rattle.priority_sched.specs.Reached.{scan_loaded, IsScanOf, IsResultOf};
 ghost use Rattle.priority_sched.specs.Scan.{scan_begun, scan_wants, scan_takes, scan_point, scan_result, scan_slot, IsScan, IsScanWord};
 
 use crate::origin::event_at;
@@ -27,9 +32,10 @@ pub struct ScanMachine {
 }
 
 impl ScanMachine {
-    /// A scan before its first access.
+    /// A scan before its first access, which can be made on the board of any accepted program.
     pub fn begin() -> ScanMachine
-        ensures { result ≡ scan_begun }
+        ensures begun { result ≡ scan_begun }
+        ensures reached { (program : Program) → IsAccepted program → IsScanOf program result }
     {
         ScanMachine {
             thread: ThreadId(0),
@@ -38,9 +44,10 @@ impl ScanMachine {
         }
     }
 
-    /// What the scan found; none exactly where it isn't over.
+    /// What the scan found; none exactly where it isn't over. From words in their ranges the pick is one that a task's machine can serve.
     pub fn result(&self) -> Option<Scanned>
-        ensures { result ≡ scan_result self.now.at }
+        ensures found { result ≡ scan_result self.now.at }
+        ensures pick { (program : Program) → IsScanOf program self.now → ForSome result (λ found. IsResultOf program found) }
     {
         match self.at {
             ScanAt::Picked { pick } => Some(Scanned::Pick(pick)),
@@ -50,10 +57,13 @@ impl ScanMachine {
     }
 
     /// The next access, at the address that the plan's layout gives its place. Once the scan is over there is none to make, and the
-    /// answer means nothing.
+    /// answer means nothing. A word in the range of the place can be taken.
     pub fn want(&self, plan: &Plan) -> Access
         requires { IsScan plan.now.accepted self.now }
-        ensures { result ≡ at_layout plan.now.layout (scan_wants plan.now.accepted self.now.thread.0 self.now.at) }
+        ensures access { result ≡ at_layout plan.now.layout (scan_wants plan.now.accepted self.now.thread.0 self.now.at) }
+        ensures range { (word : ℕ)
+            → IsAnswerTo plan.now.accepted (scan_loaded self.now.time self.now.at) (scan_wants plan.now.accepted self.now.thread.0 self.now.at) word
+            → IsScanWord plan.now.accepted self.now.at word }
     {
         plan.access(Step::Load(self.place(plan.program())))
     }
@@ -98,14 +108,18 @@ impl ScanMachine {
     }
 
     /// Takes the word that the wanted access found, goes on to the row that follows, and answers what the access stands for. A scan that
-    /// is over stays as it is.
+    /// is over stays as it is. Where every word was in the range of its place, so are the registers.
     pub fn take(&mut self, plan: &Plan, word: u64) -> KernelPoint
         requires row { IsScan plan.now.accepted self.old }
         requires range { IsScanWord plan.now.accepted self.old.at word }
         ensures taken { self.new ≡ scan_takes plan.now.accepted self.old.thread self.old.time self.old.at word }
         ensures row { IsScan plan.now.accepted self.new }
+        ensures reached { IsScanOf plan.now.accepted self.old
+            → IsAnswerTo plan.now.accepted (scan_loaded self.old.time self.old.at) (scan_wants plan.now.accepted self.old.thread.0 self.old.at) word
+            → IsScanOf plan.now.accepted self.new }
         ensures point { result ≡ scan_point self.old.thread self.old.at word }
     {
+        let _program = plan.program();
         let point = self.point(word);
         self.follow(plan, word);
         point
@@ -114,7 +128,8 @@ impl ScanMachine {
     /// The queue and the position of the event that the wanted access looks for; none exactly where it loads no slot.
     pub fn slot_wanted(&self, plan: &Plan) -> Option<SlotAt>
         requires { IsScan plan.now.accepted self.now }
-        ensures { result ≡ scan_slot self.now.thread self.now.at }
+        ensures slot { result ≡ scan_slot self.now.thread self.now.at }
+        ensures own { IsSlotWanted plan.now.accepted (scan_wants plan.now.accepted self.now.thread.0 self.now.at) result }
     {
         let _plan = plan;
         match self.at {

@@ -94,7 +94,7 @@ IsOfSource program (Some (slots.Full p source count value)) = source.0 < length 
 IsOfSource program (Some (slots.Empty p)) = Unit {0}
 IsOfSource program None = Unit {0}
 
--- the word is one that the access may find
+-- the word is one that the row takes
 abbrev pub IsBootWord : Program → BootAt → (word : ℕ) → Type 0
 IsBootWord program (Finished c) word = word < 2 ^ 20
 IsBootWord program (Slot p) word = IsOfSource program (slot_in word)

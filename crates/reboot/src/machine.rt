@@ -1,11 +1,14 @@
 //! The boot of the kernel as a machine.
-ghost use Rattle.std.specs.Prelude.{◌≡◌, ◌<◌, ◌^◌, length};
+ghost use Rattle.std.specs.Prelude.{◌≡◌, ℕ, ◌<◌, ◌^◌, length};
 ghost use Rattle.fram_words.specs.Places as places;
 ghost use Rattle.prog_check.specs.Accepted.{IsAccepted};
 ghost use Rattle.push_core.specs.Slots.{slot_in};
 ghost use Rattle.ink_layout.specs.Shape.{IsOnBoard};
 ghost use Rattle.fram_words.specs.Steps.{access_of};
 ghost use Rattle.ink_layout.specs.Addresses.{at_layout};
+ghost use Rattle.never_cut.specs.Ranges.{nothing_loaded, IsAnswerTo};
+ghost use Rattle.never_cut.specs.Wanted.{IsSlotWanted};
+ghost use Rattle.task_isa.specs.declared.program.Program.{Program};
 ghost use Rattle.reboot.specs.Boot.{boot_begun, boot_wants, boot_takes, boot_next, after_slot, boot_point, boot_stamp, boot_slot, IsBoot, IsBootWord, IsOfSource};
 
 use crate::boot_at::BootAt;
@@ -25,9 +28,10 @@ pub struct BootMachine {
 }
 
 impl BootMachine {
-    /// A boot before its first access.
+    /// A boot before its first access, which can be made on the board of any accepted program.
     pub fn begin() -> BootMachine
-        ensures { result ≡ boot_begun }
+        ensures begun { result ≡ boot_begun }
+        ensures row { (program : Program) → IsAccepted program → IsBoot program result }
     {
         BootMachine {
             thread: ThreadId(0),
@@ -47,10 +51,12 @@ impl BootMachine {
     }
 
     /// The next access, at the address that the plan's layout gives its place. Once the boot is over there is none to make, and the
-    /// answer means nothing.
+    /// answer means nothing. A word in the range of the place can be taken.
     pub fn want(&self, plan: &Plan) -> Access
         requires { IsBoot plan.now.accepted self.now }
-        ensures { result ≡ at_layout plan.now.layout (boot_wants plan.now.accepted self.now.thread.0 self.now.at) }
+        ensures access { result ≡ at_layout plan.now.layout (boot_wants plan.now.accepted self.now.thread.0 self.now.at) }
+        ensures range { (word : ℕ) → IsAnswerTo plan.now.accepted nothing_loaded (boot_wants plan.now.accepted self.now.thread.0 self.now.at) word
+            → IsBootWord plan.now.accepted self.now.at word }
     {
         plan.access(self.wants(plan.program()))
     }
@@ -98,7 +104,8 @@ impl BootMachine {
     /// another access.
     pub fn slot_wanted(&self, plan: &Plan) -> Option<SlotAt>
         requires { IsBoot plan.now.accepted self.now }
-        ensures { result ≡ boot_slot self.now.thread self.now.at }
+        ensures slot { result ≡ boot_slot self.now.thread self.now.at }
+        ensures own { IsSlotWanted plan.now.accepted (boot_wants plan.now.accepted self.now.thread.0 self.now.at) result }
     {
         let _plan = plan;
         match self.at {

@@ -31,3 +31,4 @@ pub mod States
 pub mod TimerWords
 pub mod Traps
 pub mod Words
+pub mod Alone
