@@ -1,8 +1,6 @@
 -- A board with one queue.
-use Rattle.std.proofs.Common.{◌≡◌, inl, inr, ℕ, zero, suc, ◌<◌, ◌≤◌, List, [], ◌∷◌, ◌++◌, map, length, length-append, get_or, take, drop, slice_index, refl, sym, ap, ◌∙◌, subst, arith}
+use Rattle.std.proofs.Common.{◌≡◌, ℕ, zero, suc, ◌<◌, ◌≤◌, List, [], ◌∷◌, ◌++◌, map, length, length-append, get_or, take, drop, slice_index, refl, sym, ap, ◌∙◌, subst, arith}
 use Rattle.std.proofs.lemmas.List.{length-map, map-append}
-use mathlib.Core.Option.{some}
-use lib.ListN.{get_elem?}
 use Rattle.std.specs.Prelude.{All}
 use Rattle.ink_base.specs.declared.ids.ThreadId.{ThreadId}
 use Rattle.event_queue.specs.declared.view.Shape.{Shape}
@@ -11,9 +9,9 @@ use Rattle.event_queue.specs.declared.set.QueueSet.{QueueSet}
 use Rattle.event_queue.specs.declared.seat.SourceSeat.{SourceSeat}
 use Rattle.event_queue.specs.declared.seat.KernelSeat.{KernelSeat}
 use Rattle.event_queue.specs.Calls.{released_of}
-use Rattle.event_queue.specs.Views.{places_of, queue_of, lay_of, calls_of}
+use Rattle.event_queue.specs.Views.{places_of, queue_of, lay_of}
 use Rattle.event_queue.specs.Rule.{IsLay}
-use Rattle.event_queue.specs.Seats.{view, kernel_view, ring_of, lay_in, IsOfShape, AreNewSources, IsNewSource, IsNewKernel}
+use Rattle.event_queue.specs.Seats.{view, kernel_view, ring_of, IsOfShape, AreNewSources, IsNewKernel}
 use Rattle.event_queue.proofs.Basics.{at_get}
 use Rattle.queue_rows.specs.Rounds.{firsts, IsOneQueue, IsNew, IsAt}
 
