@@ -40,18 +40,18 @@ map_same f y (x ∷ xs) zero none e each = absurd (omega arith)
 map_same f y (x ∷ xs) (suc n) none e each = λ i. each 0 (omega arith) i ∷ map_same f y xs n none (omega arith) (λ k lt. each (suc k) (omega arith)) i
 
 -- the port of a source is within the limits
-right_port : (job : JobParts) → IsSetup (setup_of job) → (i : ℕ) → i < length job.program.sources → IsPort (port_of (sides (setup_of job)) i)
-right_port job g i known =
-    let there = g.accepted.sources i known in
-    let queue = g.accepted.threads (source_thread job.program i) there in
+pub right_port : (job : JobParts) → IsAccepted job.program → (i : ℕ) → i < length job.program.sources → IsPort (port_of (sides (setup_of job)) i)
+right_port job accepted i known =
+    let there = accepted.sources i known in
+    let queue = accepted.threads (source_thread job.program i) there in
     let same = places_same (setup_of job) (source_thread job.program i) in
     record {
-      source = let few = g.accepted.counts.sources in omega arith;
+      source = let few = accepted.counts.sources in omega arith;
       some = omega (arith, same, queue.queue_least);
       no_more = omega (arith, same, queue.queue);
       slots =
           let low : address (shape_of job.program) (Slot (source_thread job.program i) 0) < words_of (shape_of job.program) = below job.program (Slot (source_thread job.program i) 0) (there, omega (arith, queue.queue_least)) in
-          let few = few_words job.program g.accepted in
+          let few = few_words job.program accepted in
           omega (arith, same, queue.queue);
     }
 
@@ -61,6 +61,13 @@ module _ (job : JobParts) (l : Layout) (i : ℕ) (accepted : IsAccepted job.prog
   srcs_fit =
       let is = layout.addresses (Src i) known in
       let within : address (shape_of job.program) (Src i) < words_of (shape_of job.program) = below job.program (Src i) known in
+      let few = few_words job.program accepted in
+      omega arith
+
+  pub acks_fit : l.acks + i < 2 ^ 32
+  acks_fit =
+      let is = layout.addresses (Ack i) known in
+      let within : address (shape_of job.program) (Ack i) < words_of (shape_of job.program) = below job.program (Ack i) known in
       let few = few_words job.program accepted in
       omega arith
 
@@ -136,7 +143,7 @@ module _ (job : JobParts) (words : List ℕ) (pushers : List Pusher) (records : 
     is_setup = g;
     layout_is = layout;
     rows = refl;
-    machines = λ i lt. record { port = ap (λ (p : Pusher). p.port) (ps.each i lt); right = right_port job g i lt };
+    machines = λ i lt. record { port = ap (λ (p : Pusher). p.port) (ps.each i lt); right = right_port job g.accepted i lt };
     holds = subst (λ b. Holds (setup_of job) (length job.charges) b) (sym first_fields) (first_holds (setup_of job) words (length job.charges) g (first_stands (setup_of job) words g refl image));
     range = let turns = turns_few job 0 is in let few = is.charges.count in record { clock = omega arith; counts = open_lasts job.program (0 + turns_from job 0) (omega arith); turns = omega arith };
     charges = refl;

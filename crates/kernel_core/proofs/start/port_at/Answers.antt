@@ -1,15 +1,21 @@
-use Rattle.std.proofs.Common.{◌+◌, List, get_or, ap, ◌∙◌, subst, arith}
+use Rattle.std.proofs.Common.{◌+◌, List, get_or, sym, ap, ◌∙◌, subst, arith}
 use Rattle.task_isa.specs.declared.program.Program.{Program}
 use Rattle.std.proofs.lemmas.List.{get_or_default}
 use Rattle.ink_base.specs.declared.ids.ThreadId.{ThreadId}
 use Rattle.prog_check.specs.Lookup.{no_thread}
 use Rattle.prog_check.specs.Accepted.{IsAccepted}
 use Rattle.ink_layout.specs.Layouts.{IsLayout}
-use Rattle.kernel_core.proofs.Starts.{srcs_fit, port_is}
+use Rattle.push_core.specs.Table.{IsPort}
+use Rattle.push_core.specs.declared.port.Port.{Port}
+use Rattle.kernel_core.proofs.Starts.{acks_fit, srcs_fit, port_is, right_port}
 use Rattle.kernel_core.proofs.start.port_at.Goals as goal
 
 pub overflow_add-result-2 : goal.overflow_add-result-2
 overflow_add-result-2 c = let fit = srcs_fit c.args.job.now c.args.plan.now.layout c.args.i (subst (λ (p : Program). IsAccepted p) c.requires.plan c.program.ensures.accepted)
+    (subst (λ (p : Program). IsLayout p c.args.plan.now.layout) c.requires.plan c.program.ensures.layout) c.requires.known in omega (arith, fit)
+
+pub overflow_add-result : goal.overflow_add-result
+overflow_add-result c = let fit = acks_fit c.args.job.now c.args.plan.now.layout c.args.i (subst (λ (p : Program). IsAccepted p) c.requires.plan c.program.ensures.accepted)
     (subst (λ (p : Program). IsLayout p c.args.plan.now.layout) c.requires.plan c.program.ensures.layout) c.requires.known in omega (arith, fit)
 
 pub returns-clause-port : goal.returns-clause-port
@@ -24,3 +30,8 @@ returns-clause-port c =
     })
     ∙ port_is c.args.job.now c.args.plan.now.layout c.args.i (subst (λ (p : Program). IsAccepted p) c.requires.plan c.program.ensures.accepted)
     (subst (λ (p : Program). IsLayout p c.args.plan.now.layout) c.requires.plan c.program.ensures.layout) c.requires.known
+
+pub returns-clause-right : goal.returns-clause-right
+returns-clause-right c =
+    subst (λ (p : Port). IsPort p) (sym (returns-clause-port c))
+    (right_port c.args.job.now (subst (λ (p : Program). IsAccepted p) c.requires.plan c.program.ensures.accepted) c.args.i c.requires.known)
