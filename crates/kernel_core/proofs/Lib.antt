@@ -23,3 +23,5 @@ pub mod JobMoves
 pub mod Starts
 pub mod Growth
 pub mod Scanned
+pub mod Settling
+pub mod RunRecords

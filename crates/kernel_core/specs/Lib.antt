@@ -10,5 +10,6 @@ pub mod Listed
 pub mod Made
 pub mod Recorded
 pub mod Starts
-pub mod Room
 pub mod Scanned
+pub mod Settling
+pub mod RunRecords

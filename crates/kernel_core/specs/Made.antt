@@ -1,8 +1,9 @@
 -- What a turn makes: its access, the word that it finds, and the entry that it adds to the journal.
-use Rattle.std.specs.Prelude.{ℕ, if◌then◌else◌, length, Some, None}
+use Rattle.std.specs.Prelude.{ℕ, if◌then◌else◌, length, Option, Some, None}
 use Rattle.ink_base.specs.declared.actor.Actor.{Actor}
 use Rattle.ink_base.specs.declared.actor.Actor.TheVariants as actors
 use Rattle.ink_base.specs.declared.entry.Entry.TheVariants.{Tick}
+use Rattle.fram_words.specs.declared.access.Access.{Access}
 use Rattle.ink_layout.specs.Points.{entry_of_point}
 use Rattle.push_core.specs.Table.{is_left, point_of}
 use Rattle.source_laws.specs.Rows.{port_of}
@@ -35,3 +36,11 @@ abbrev pub made_by : Setup → Board → Actor → Made
 made_by s b actors.Kernel = kernel_made s b
 made_by s b (actors.Source i) = source_makes s b i.0
 made_by s b actors.Clock = clock_made s b
+
+-- how many accesses a turn made: one, or none
+abbrev pub one_if : Option Access → ℕ
+one_if (Some access) = 1
+one_if None = 0
+
+abbrev pub accesses_in : Made → ℕ
+accesses_in made = one_if made.access

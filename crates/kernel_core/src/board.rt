@@ -1,5 +1,5 @@
 //! The board of a job and its turns.
-ghost use Rattle.std.specs.Prelude.{◌≡◌, ◌+◌, ◌<◌, ◌≤◌, length, map, Some};
+ghost use Rattle.std.specs.Prelude.{◌≡◌, ◌+◌, ◌<◌, ◌≤◌, [], length, map, vec_capacity, Some};
 ghost use Rattle.ink_layout.specs.Points.{entry_of_point};
 ghost use Rattle.ink_layout.specs.Image.{IsFirstImage};
 ghost use Rattle.task_run.specs.Knows.{HasCode};
@@ -9,22 +9,25 @@ ghost use Rattle.never_cut.specs.Entries.{readings_of};
 ghost use Rattle.kernel_core.specs.Board.{first_board, turn, cut, kernel_turn, clock_turn, source_made, source_turn, source_access, row_of, sides, entry_of_source};
 ghost use Rattle.kernel_core.specs.Holds.{BoardStands};
 ghost use Rattle.kernel_core.specs.Moves.{IsActor};
-ghost use Rattle.kernel_core.specs.Made.{made_by, kernel_made, access_made, source_makes, clock_made, nothing_made};
+ghost use Rattle.kernel_core.specs.Made.{made_by, kernel_made, access_made, source_makes, clock_made, nothing_made, accesses_in};
+ghost use Rattle.kernel_core.specs.Settling.{RefusalsKeep, SkipsStore};
+ghost use Rattle.kernel_core.specs.RunRecords.{RecordStands};
 ghost use Rattle.job_parts.specs.Job.{IsJob};
-ghost use Rattle.kernel_core.specs.Room.{HasRoom};
 ghost use Rattle.kernel_core.specs.Starts.{AreFirstPushers, AreFirstRecords};
 ghost use Rattle.kernel_core.specs.Core.{View, IsCore, setup_of, row_in, charge_in, rebooted, turns_in};
 
+use crate::charge_record::ChargeRecord;
 use crate::kernel::Kernel;
 use crate::made::Made;
 use crate::recording::Recording;
-use crate::run_record::{RecordRoom, RunRecord};
+use crate::run_record::{RunRecord, finished};
 use crate::start::Start;
 use fram_words::{Access, Fram};
 use ink_base::{Actor, Entry, SourceId};
 use ink_layout::{KernelPoint, Plan};
 use job_parts::Job;
 use push_core::{Point, Pusher, Row};
+use sqlite_items::Items;
 use std::marker::Model;
 use task_run::read_code_back;
 
@@ -40,7 +43,7 @@ pub struct Core {
     charges: Vec<Recording>,
     begun: usize,
     room: u64,
-    space: RecordRoom,
+    kept: Vec<ChargeRecord>,
 }
 
 impl Model for Core {
@@ -48,7 +51,7 @@ impl Model for Core {
 
     ghost view = { λ c. record { job = c.job; board = record { words = c.fram; kernel = c.kernel; rows = map row_in c.pushers.items; charges = map charge_in c.charges.items; begun = c.begun }; room = c.room } };
 
-    ghost invariant = { λ c. ((c.plan.accepted ≡ c.job.program) × HasRoom c.space c.job c.plan.layout) × IsCore c.job c.plan.layout (record { words = c.fram; kernel = c.kernel; rows = map row_in c.pushers.items; charges = map charge_in c.charges.items; begun = c.begun }) c.room c.pushers.items c.charges.items };
+    ghost invariant = { λ c. ((c.plan.accepted ≡ c.job.program) × (c.kept.items ≡ []) × (length c.job.charges ≤ vec_capacity c.kept)) × IsCore c.job c.plan.layout (record { words = c.fram; kernel = c.kernel; rows = map row_in c.pushers.items; charges = map charge_in c.charges.items; begun = c.begun }) c.room c.pushers.items c.charges.items };
 }
 
 impl Core {
@@ -59,7 +62,8 @@ impl Core {
         requires image { IsFirstImage job.program start.fram }
         requires pushers { AreFirstPushers job (length job.program.sources) start.pushers.items }
         requires charges { AreFirstRecords job (length job.charges) start.charges.items }
-        requires space { HasRoom start.space job start.plan.layout }
+        requires empty { start.kept.items ≡ [] }
+        requires space { length job.charges ≤ vec_capacity start.kept }
         ensures job { result.job ≡ job }
         ensures words { result.board.words ≡ start.fram }
         ensures board { result.board ≡ first_board (setup_of job) start.fram (length job.charges) }
@@ -70,7 +74,7 @@ impl Core {
             fram,
             pushers,
             charges,
-            space,
+            kept,
         } = start;
         read_code_back(plan.program());
         Core {
@@ -82,15 +86,17 @@ impl Core {
             charges,
             begun: 0,
             room: 0,
-            space,
+            kept,
         }
     }
 
-    /// What the board leaves behind: the job, what each charge recorded, and the words as they stand. It takes no memory.
+    /// What the board leaves behind: the job, what each charge recorded, and the words as they stand, which stand for the never-cut
+    /// kernel after the record's journal. It takes no memory.
     pub fn into_record(self) -> RunRecord
         ensures job { result.job ≡ self.job }
         ensures charges { result.charges ≡ self.board.charges }
         ensures words { result.words ≡ self.board.words }
+        ensures stands { RecordStands result }
     {
         let Core {
             job,
@@ -101,9 +107,13 @@ impl Core {
             charges,
             begun: _,
             room: _,
-            space,
+            kept,
         } = self;
-        space.fill(job, charges, &fram)
+        RunRecord {
+            job,
+            charges: finished(charges, kept),
+            words: Items::from_vec(fram.into_words()),
+        }
     }
 
     pub(crate) fn job(&self) -> &Job
@@ -112,10 +122,12 @@ impl Core {
         &self.job
     }
 
-    /// The words of the board.
+    /// The words of the board, which stand for the never-cut kernel after the journal so far.
     pub fn words(&self) -> &Fram
-        ensures { result.now ≡ self.now.board.words }
+        ensures words { result.now ≡ self.now.board.words }
+        ensures stands { BoardStands (setup_of self.now.job) self.now.board }
     {
+        self.stands();
         &self.fram
     }
 
@@ -129,7 +141,11 @@ impl Core {
         ensures made { result ≡ made_by (setup_of self.old.job) self.old.board actor }
         ensures stands { BoardStands (setup_of self.new.job) self.new.board }
         ensures job { self.new.job ≡ self.old.job }
-        ensures room { self.old.room ≤ self.new.room + 1 }
+        ensures room { self.old.room ≡ self.new.room + accesses_in result }
+
+        // What the entry tells of the words: a push that is refused leaves them all, its skip changes SRC of its source alone.
+        ensures refused { RefusalsKeep result self.old.board.words self.new.board.words }
+        ensures skipped { SkipsStore (setup_of self.old.job) result self.old.board.words self.new.board.words }
     {
         let made = self.turn(actor);
         self.stands();
@@ -174,7 +190,7 @@ impl Core {
         ensures board { self.new.board ≡ turn (setup_of self.old.job) self.old.board actor }
         ensures made { result ≡ made_by (setup_of self.old.job) self.old.board actor }
         ensures job { self.new.job ≡ self.old.job }
-        ensures room { self.old.room ≤ self.new.room + 1 }
+        ensures room { self.old.room ≡ self.new.room + accesses_in result }
     {
         match actor {
             Actor::Kernel => self.kernel_turn(),
@@ -196,7 +212,7 @@ impl Core {
         ensures board { self.new.board ≡ kernel_turn (setup_of self.old.job) self.old.board }
         ensures made { result ≡ kernel_made (setup_of self.old.job) self.old.board }
         ensures job { self.new.job ≡ self.old.job }
-        ensures room { self.old.room ≤ self.new.room + 1 }
+        ensures room { self.old.room ≡ self.new.room + accesses_in result }
     {
         let access = self.kernel.want(&self.plan);
         let word = self.fram.perform(access);
@@ -217,7 +233,7 @@ impl Core {
         ensures board { self.new.board ≡ clock_turn (setup_of self.old.job) self.old.board }
         ensures made { result ≡ clock_made (setup_of self.old.job) self.old.board }
         ensures job { self.new.job ≡ self.old.job }
-        ensures room { self.old.room ≤ self.new.room + 1 }
+        ensures room { self.old.room ≡ self.new.room + accesses_in result }
     {
         let access = Access::Add {
             addr: self.plan.layout.clock,
@@ -240,7 +256,7 @@ impl Core {
         ensures board { self.new.board ≡ source_turn (setup_of self.old.job) self.old.board source.0 }
         ensures made { result ≡ source_makes (setup_of self.old.job) self.old.board source.0 }
         ensures job { self.new.job ≡ self.old.job }
-        ensures room { self.old.room ≤ self.new.room + 1 }
+        ensures room { self.old.room ≡ self.new.room + accesses_in result }
     {
         match self.next_access(source) {
             Some(access) => self.source_made(source, access),
@@ -266,7 +282,7 @@ impl Core {
         ensures board { self.new.board ≡ source_made (setup_of self.old.job) self.old.board source.0 }
         ensures made { result ≡ access_made (setup_of self.old.job) self.old.board source.0 }
         ensures job { self.new.job ≡ self.old.job }
-        ensures room { self.old.room ≤ self.new.room + 1 }
+        ensures room { self.old.room ≡ self.new.room + accesses_in result }
     {
         let i = source.0 as usize;
         let word = self.fram.perform(access);

@@ -1,5 +1,5 @@
 //! A board before its first charge.
-ghost use Rattle.std.specs.Prelude.{◌≡◌, ◌<◌, length, IfOk};
+ghost use Rattle.std.specs.Prelude.{◌≡◌, ◌<◌, ◌≤◌, [], length, vec_capacity, IfOk};
 ghost use Rattle.push_core.specs.Table.{IsPort};
 ghost use Rattle.source_laws.specs.Rows.{port_of};
 ghost use Rattle.ink_layout.specs.Image.{IsFirstImage};
@@ -8,12 +8,11 @@ ghost use Rattle.kernel_core.specs.Board.{sides, first_board};
 ghost use Rattle.kernel_core.specs.Holds.{BoardStands};
 ghost use Rattle.kernel_core.specs.Core.{setup_of};
 ghost use Rattle.job_parts.specs.Job.{IsJob};
-ghost use Rattle.kernel_core.specs.Room.{HasRoom};
 ghost use Rattle.kernel_core.specs.Starts.{IsFirstRecord, AreFirstPushers, AreFirstRecords};
 
 use crate::board::{Core, turns_in};
+use crate::charge_record::ChargeRecord;
 use crate::recording::Recording;
-use crate::run_record::RecordRoom;
 use fram_words::{Fram, Place};
 use ink_base::{NoMemory, SourceId};
 use ink_layout::{Plan, first_image};
@@ -46,7 +45,7 @@ pub(crate) struct Start {
     pub fram: Fram,
     pub pushers: Vec<Pusher>,
     pub charges: Vec<Recording>,
-    pub space: RecordRoom,
+    pub kept: Vec<ChargeRecord>,
 }
 
 impl Start {
@@ -56,19 +55,20 @@ impl Start {
         ensures image { IfOk result (λ start. IsFirstImage job.now.program start.fram) }
         ensures pushers { IfOk result (λ start. AreFirstPushers job.now (length job.now.program.sources) start.pushers.items) }
         ensures charges { IfOk result (λ start. AreFirstRecords job.now (length job.now.charges) start.charges.items) }
-        ensures space { IfOk result (λ start. HasRoom start.space job.now start.plan.layout) }
+        ensures empty { IfOk result (λ start. start.kept.items ≡ []) }
+        ensures space { IfOk result (λ start. length job.now.charges ≤ vec_capacity start.kept) }
     {
         let plan = Plan::new(alloc, job.accepted().copy(alloc)?)?;
         let fram = first_image(alloc, &plan.accepted, &plan.layout)?;
         let pushers = first_pushers(alloc, job, &plan)?;
         let charges = first_records(alloc, job)?;
-        let space = RecordRoom::new(alloc, job.charges().len(), plan.layout.words as usize)?;
+        let kept = Vec::with_capacity(alloc, job.charges().len())?;
         Ok(Start {
             plan,
             fram,
             pushers,
             charges,
-            space,
+            kept,
         })
     }
 }

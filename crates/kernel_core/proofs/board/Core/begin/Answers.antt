@@ -14,7 +14,7 @@ is_setup c = job_setup c.args.job c.requires.job (subst (λ (p : Program). HasCo
 
 pub invariant_of-result : goal.invariant_of-result
 invariant_of-result c = (
-  (c.requires.plan, c.requires.space),
+  (c.requires.plan, c.requires.empty, c.requires.space),
   subst (λ (k : Kernel). IsCore c.args.job c.args.start.plan.layout (record { words = c.args.start.fram; kernel = k; rows = map row_in c.args.start.pushers.items; charges = map charge_in c.args.start.charges.items; begun = 0 }) 0 c.args.start.pushers.items c.args.start.charges.items)
       (sym c.boot.ensures)
       (first_core c.args.job c.args.start.fram c.args.start.pushers.items c.args.start.charges.items (is_setup c) c.requires.job c.requires.image c.requires.pushers c.requires.charges c.args.start.plan.layout

@@ -5,6 +5,7 @@ use Rattle.kernel_core.specs.Moves.{IsActor}
 use Rattle.kernel_core.specs.Core.{setup_of}
 use Rattle.kernel_core.proofs.Runs.{turn_begun}
 use Rattle.kernel_core.proofs.CoreRuns.{turn_more}
+use Rattle.kernel_core.proofs.Settling.{one_at_most}
 use Rattle.kernel_core.proofs.board.Core.run_item.Goals as goal
 
 pub loop-turn-init : goal.loop-turn-init
@@ -26,7 +27,7 @@ loop-turn-preserved c = (
       ∙ ((λ k. turn (setup_of (c.loop-turn.invariant.0 k)) (c.loop-turn.invariant.1 k) c.args.item.actor)
       ∙ sym (turn_more (setup_of c.args.self.now.job) c.args.self.now.board c.loop-turn._turn c.args.item.actor)),
   ap (λ (z : Board). z.begun) c.step.ensures.board ∙ (turn_begun (setup_of c.loop-turn.self.job) c.loop-turn.self.board c.args.item.actor ∙ c.loop-turn.invariant.2),
-  (let e = c.loop-turn.invariant.3 in let room = c.step.ensures.room in omega arith),
+  (let e = c.loop-turn.invariant.3 in let room = c.step.ensures.room in let one = one_at_most c.step.result in omega arith),
 )
 
 pub returns-clause-board : goal.returns-clause-board

@@ -1,0 +1,38 @@
+-- The words of a record stand as those of its board.
+use Rattle.std.proofs.Common.{◌≡◌, ℕ, zero, suc, ◌+◌, ◌≤◌, List, [], ◌∷◌, ◌++◌, refl, sym, ap, ◌∙◌, subst, arith}
+use Rattle.std.specs.List.{flat_map}
+use Rattle.ink_base.specs.declared.entry.Entry.{Entry}
+use Rattle.job_parts.specs.Job.{JobParts}
+use Rattle.fram_words.specs.declared.layout.Layout.{Layout}
+use Rattle.push_core.specs.declared.pusher.Pusher.{Pusher}
+use Rattle.never_cut.specs.State.{open_model}
+use Rattle.never_cut.specs.Journal.{after, IsLegal}
+use Rattle.never_cut.specs.Stands.{Stands}
+use Rattle.kernel_core.specs.declared.run_record.RunRecord.{RunRecord}
+use Rattle.kernel_core.specs.Record.{ChargeRecord, charge_of, journal_of}
+use Rattle.kernel_core.specs.Recorded.{Recorded}
+use Rattle.kernel_core.specs.Board.{Board, journal}
+use Rattle.kernel_core.specs.Holds.{memory}
+use Rattle.kernel_core.specs.Core.{IsCore, View, setup_of}
+use Rattle.kernel_core.specs.RunRecords.{RecordStands, entries_of, journal_in}
+use Rattle.kernel_core.proofs.CoreSteps.{stands}
+
+no_entries : (charges : List ChargeRecord) → ((k : ℕ) → (charge_of charges k).entries ≡ []) → flat_map entries_of charges ≡ []
+no_entries [] none = refl
+no_entries (c ∷ charges) none = ap (λ l. l ++ flat_map entries_of charges) (none 0) ∙ no_entries charges (λ k. none (suc k))
+
+-- the charges that have not begun add nothing
+all_entries : (charges : List ChargeRecord) (begun : ℕ) → ((k : ℕ) → begun ≤ k → (charge_of charges k).entries ≡ []) → journal_of charges begun ≡ flat_map entries_of charges
+all_entries charges zero later = sym (no_entries charges (λ k. later k (omega arith)))
+all_entries [] (suc n) later = refl
+all_entries (c ∷ charges) (suc n) later = ap (λ l. c.entries ++ l) (all_entries charges n (λ k le. later (suc k) (omega arith)))
+
+module _ (job : JobParts) (l : Layout) (b : Board) (room : ℕ) (ps : List Pusher) (records : List Recorded) (h : IsCore job l b room ps records) where
+  pub record_stands : RecordStands (record { job = job; charges = b.charges; words = b.words })
+  record_stands =
+      let board = stands job l b room ps records h in
+      let same : journal b ≡ flat_map entries_of b.charges = all_entries b.charges b.begun h.holds.size.later in
+      record {
+        legal = subst (λ (es : List Entry). IsLegal job.program job.readings (open_model job.program) es) same board.legal;
+        stands = subst (λ (es : List Entry). Stands (memory (setup_of job) b) job.program (after job.program job.readings (open_model job.program) es)) same board.stands;
+      }
