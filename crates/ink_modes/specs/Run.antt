@@ -1,6 +1,5 @@
 -- The run of a job, its record, and its text.
 use Rattle.std.specs.Prelude.{◌≡◌, ℕ, ◌^◌, ◌<◌, List, ◌++◌, length}
-use Rattle.std.specs.List.{flat_map}
 use Rattle.ink_base.specs.declared.entry.Entry.{Entry}
 use Rattle.ink_layout.specs.Image.{IsFirstImage}
 use Rattle.job_parts.specs.Job.{JobParts}
@@ -8,12 +7,12 @@ use Rattle.never_cut.specs.State.{open_model}
 use Rattle.never_cut.specs.Journal.{after, IsLegal}
 use Rattle.never_cut.specs.Laws.{ReadingsInOrder, EachEventOnce, StatesByCommits, StampsByCommits}
 use Rattle.kernel_core.specs.declared.run_record.RunRecord.{RunRecord}
-use Rattle.kernel_core.specs.declared.charge_record.ChargeRecord.{ChargeRecord}
 use Rattle.kernel_core.specs.Board.{Board, journal}
 use Rattle.kernel_core.specs.Holds.{BoardStands}
 use Rattle.kernel_core.specs.Listed.{run, run_first}
 use Rattle.kernel_core.specs.Core.{setup_of}
 use Rattle.kernel_core.specs.Scanned.{ChargesAreScanned}
+pub use Rattle.kernel_core.specs.RunRecords.{entries_of, journal_in}
 use Rattle.ink_report.specs.declared.flags.Flags.{Flags}
 use Rattle.ink_report.specs.Report as report
 
@@ -23,13 +22,6 @@ board_after job words n = run_first (setup_of job) words job.charges n
 
 abbrev pub board_run : JobParts → List ℕ → Board
 board_run job words = run (setup_of job) words job.charges
-
-abbrev pub entries_of : ChargeRecord → List Entry
-entries_of charge = charge.entries
-
--- the one journal: the entries of all charges, in order
-abbrev pub journal_in : RunRecord → List Entry
-journal_in r = flat_map entries_of r.charges
 
 -- The board ran the job from the words of its first image on, and the record is what it left behind. After each access and each cut the
 -- words stood for the never-cut kernel after the journal so far, which was legal and a beginning of the record's. The record's journal is

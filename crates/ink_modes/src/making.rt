@@ -14,8 +14,8 @@ use ink_base::{JobAnswer, NoMemory, Status};
 use ink_report::Flags;
 use kernel_core::{RunRecord, prepare};
 use power_trace::{Job, parse_job};
-use std::alloc::Global;
 use program_text::print_program;
+use std::alloc::Global;
 
 /// The record of a command, and its text.
 #[derive(Drop)]
