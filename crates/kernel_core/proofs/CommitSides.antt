@@ -19,7 +19,6 @@ use Rattle.never_cut.specs.Picked.{IsPicked}
 use Rattle.never_cut.specs.Commit.{commit, committed, consumed, ended, end_at, expired, expired_after, is_expired, is_of_queue, thread_after, with_end, with_first}
 use Rattle.fram_words.specs.Places.{Memory}
 use Rattle.ink_layout.specs.declared.pick.Pick.{Pick}
-use Rattle.source_laws.specs.Model as sources
 use Rattle.kernel_core.specs.Views.{queue_event, queue_in, source_in, sides_of}
 
 -- the thread's queue is as it was, or its event, which is one of the queue, is finished

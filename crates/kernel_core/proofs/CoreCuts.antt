@@ -1,5 +1,5 @@
 -- A cut on the fields of a core.
-use Rattle.std.proofs.Common.{◌≡◌, ◌≢◌, inl, inr, ℕ, zero, suc, ◌+◌, ◌-◌, ◌<◌, ◌≤◌, ◌^◌, List, [], ◌∷◌, ◌++◌, length, map, take, replicate, drop, get_or, set, slice_index, Some, refl, sym, ap, ◌∙◌, subst, arith, get_or-set_same, get_or-set_other}
+use Rattle.std.proofs.Common.{◌≡◌, ◌≢◌, inl, inr, ℕ, zero, suc, ◌+◌, ◌-◌, ◌<◌, ◌≤◌, ◌^◌, List, [], ◌∷◌, ◌++◌, length, map, take, replicate, drop, get_or, set, slice_index, refl, sym, ap, ◌∙◌, subst, arith, get_or-set_same, get_or-set_other}
 use Rattle.std.proofs.lemmas.Bool.{cases_eq, cases_lt}
 use Rattle.std.proofs.lemmas.List.{length-map, get_or_read, get_or_past, get_or-replicate, length-replicate}
 use Rattle.fram_words.specs.Places as places
@@ -12,18 +12,14 @@ use Rattle.push_core.specs.declared.pusher.Pusher.{Pusher}
 use Rattle.job_parts.specs.Job.{JobParts}
 use Rattle.kernel_core.specs.declared.kernel.Kernel.{Kernel}
 use Rattle.kernel_core.specs.Kernel.{first_kernel}
-use Rattle.kernel_core.specs.Record.{ChargeRecord, charge_of, not_begun, begun, journal_of}
+use Rattle.kernel_core.specs.Record.{ChargeRecord, charge_of, not_begun, begun}
 use Rattle.kernel_core.specs.Recorded.{Recorded}
-use Rattle.ink_base.specs.declared.entry.Entry.TheVariants.{Tick}
-use Rattle.never_cut.specs.declared.model.Model.{Model}
-use Rattle.never_cut.specs.Journal.{noted, after}
 use Rattle.never_cut.specs.Within.{Lasts}
 use Rattle.never_cut.proofs.Lasting.{lasts_less}
-use Rattle.kernel_core.specs.Board.{Board, shape, journal, cut}
+use Rattle.kernel_core.specs.Board.{Board, shape, cut}
 use Rattle.kernel_core.specs.Holds.{state}
 use Rattle.kernel_core.specs.Core.{IsCore, AreRecords, CanCount, StaysInRange, setup_of, charge_in, row_in, rebooted, none_recorded, no_pusher, turns_in, turns_from}
 use Rattle.kernel_core.proofs.CoreJobs.{turns_split}
-use Rattle.kernel_core.proofs.Charges.{noted_last, fresh}
 use Rattle.kernel_core.proofs.Turns.{Goes}
 use Rattle.kernel_core.proofs.Cuts.{cut_goes, cut_lasts}
 use Rattle.kernel_core.proofs.CoreSteps.{map-set, charge_at, clock_word, records_count}

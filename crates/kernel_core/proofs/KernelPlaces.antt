@@ -1,5 +1,5 @@
 -- Each place that the kernel wants is one of the board.
-use Rattle.std.proofs.Common.{◌≡◌, inl, inr, ℕ, ◌+◌, ◌*◌, ◌/◌, ◌%◌, ◌^◌, ◌<◌, ◌==◌, Bool, true, false, cond, List, length, refl, sym, ap, ◌∙◌, subst, arith, mod-lt}
+use Rattle.std.proofs.Common.{◌≡◌, inl, inr, ℕ, ◌+◌, ◌*◌, ◌/◌, ◌%◌, ◌<◌, ◌==◌, Bool, true, false, cond, List, length, refl, sym, ap, ◌∙◌, subst, arith, mod-lt}
 use Rattle.std.proofs.lemmas.Nat.Bits.{bit_at-lt}
 use Rattle.std.specs.Int.{bit_at}
 use Rattle.ink_base.specs.declared.event.Event.{Event}

@@ -1,5 +1,5 @@
 -- The words of a record stand as those of its board.
-use Rattle.std.proofs.Common.{◌≡◌, ℕ, zero, suc, ◌+◌, ◌≤◌, List, [], ◌∷◌, ◌++◌, refl, sym, ap, ◌∙◌, subst, arith}
+use Rattle.std.proofs.Common.{◌≡◌, ℕ, zero, suc, ◌≤◌, List, [], ◌∷◌, ◌++◌, refl, sym, ap, ◌∙◌, subst, arith}
 use Rattle.std.specs.List.{flat_map}
 use Rattle.ink_base.specs.declared.entry.Entry.{Entry}
 use Rattle.job_parts.specs.Job.{JobParts}
@@ -8,13 +8,12 @@ use Rattle.push_core.specs.declared.pusher.Pusher.{Pusher}
 use Rattle.never_cut.specs.State.{open_model}
 use Rattle.never_cut.specs.Journal.{after, IsLegal}
 use Rattle.never_cut.specs.Stands.{Stands}
-use Rattle.kernel_core.specs.declared.run_record.RunRecord.{RunRecord}
 use Rattle.kernel_core.specs.Record.{ChargeRecord, charge_of, journal_of}
 use Rattle.kernel_core.specs.Recorded.{Recorded}
 use Rattle.kernel_core.specs.Board.{Board, journal}
 use Rattle.kernel_core.specs.Holds.{memory}
-use Rattle.kernel_core.specs.Core.{IsCore, View, setup_of}
-use Rattle.kernel_core.specs.RunRecords.{RecordStands, entries_of, journal_in}
+use Rattle.kernel_core.specs.Core.{IsCore, setup_of}
+use Rattle.kernel_core.specs.RunRecords.{RecordStands, entries_of}
 use Rattle.kernel_core.proofs.CoreSteps.{stands}
 
 no_entries : (charges : List ChargeRecord) → ((k : ℕ) → (charge_of charges k).entries ≡ []) → flat_map entries_of charges ≡ []

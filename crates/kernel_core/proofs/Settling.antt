@@ -11,10 +11,8 @@ use Rattle.ink_layout.specs.declared.kernel_point.KernelPoint.{KernelPoint}
 use Rattle.ink_layout.specs.declared.kernel_point.KernelPoint.TheVariants as points
 use Rattle.ink_layout.specs.Points.{entry_of_point}
 use Rattle.push_core.specs.Slots.{empty_word, slot_in}
-use Rattle.push_core.specs.declared.row.Row.{Row}
 use Rattle.push_core.specs.declared.stage.Stage.{Stage}
 use Rattle.push_core.specs.declared.stage.Stage.TheVariants.{LoadSrc, LoadSlots, LoadAck, LoadTail, LoadSlot, Publish, MoveTail, HelpTail, StoreSkip, StoreAccepted}
-use Rattle.push_core.specs.declared.point.Point.{Point}
 use Rattle.push_core.specs.declared.point.Point.TheVariants as found
 use Rattle.push_core.specs.Table.{access_at, point_of, is_full_at, is_left, src_word}
 use Rattle.source_laws.specs.Rows.{port_of}

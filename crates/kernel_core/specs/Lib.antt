@@ -6,6 +6,7 @@ pub mod Holds
 pub mod Moves
 pub mod Core
 pub mod Fits
+pub mod Reached
 pub mod Listed
 pub mod Made
 pub mod Recorded

@@ -16,14 +16,14 @@ pub invariant_of-result : goal.invariant_of-result
 invariant_of-result c = (
   (c.requires.plan, c.requires.empty, c.requires.space),
   subst (λ (k : Kernel). IsCore c.args.job c.args.start.plan.layout (record { words = c.args.start.fram; kernel = k; rows = map row_in c.args.start.pushers.items; charges = map charge_in c.args.start.charges.items; begun = 0 }) 0 c.args.start.pushers.items c.args.start.charges.items)
-      (sym c.boot.ensures)
+      (sym c.boot.ensures.begun)
       (first_core c.args.job c.args.start.fram c.args.start.pushers.items c.args.start.charges.items (is_setup c) c.requires.job c.requires.image c.requires.pushers c.requires.charges c.args.start.plan.layout
       (subst (λ (p : Program). IsLayout p c.args.start.plan.layout) c.requires.plan c.program.ensures.layout)),
 )
 
 pub returns-clause-board : goal.returns-clause-board
 returns-clause-board c =
-    (λ i. record { words = c.args.start.fram; kernel = c.boot.ensures i; rows = map row_in c.args.start.pushers.items; charges = map charge_in c.args.start.charges.items; begun = 0 })
+    (λ i. record { words = c.args.start.fram; kernel = c.boot.ensures.begun i; rows = map row_in c.args.start.pushers.items; charges = map charge_in c.args.start.charges.items; begun = 0 })
     ∙ first_fields c.args.job c.args.start.fram c.args.start.pushers.items c.args.start.charges.items (is_setup c) c.requires.job c.requires.image c.requires.pushers c.requires.charges
 
 pub returns-clause-code : goal.returns-clause-code

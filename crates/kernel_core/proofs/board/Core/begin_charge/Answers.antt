@@ -20,7 +20,7 @@ pub invariant_of-self : goal.invariant_of-self
 invariant_of-self c = (
   c.self.invariant.0,
   core_of _ _ _ _ _ _ c.self.invariant.1 (subst (λ (z : View). z.board.begun < length z.job.charges) (sym c.self.view_is) c.requires) c.args.off (omega arith) c.perform-self-inside.new.self c.boot-self-inside.result c.lose_rows.new.pushers.items c.begin.new.self c.turns_in-self-inside.result
-      c.perform-self-inside.ensures.after c.boot-self-inside.ensures c.lose_rows.ensures
+      c.perform-self-inside.ensures.after c.boot-self-inside.ensures.begun c.lose_rows.ensures
       (c.begin.ensures.charge ∙ ap (λ (z : Recorded). begun c.args.off z.charge) (at_next _ _ _ _ _ _ c.self.invariant.1 (subst (λ (z : View). z.board.begun < length z.job.charges) (sym c.self.view_is) c.requires) c.args.off (omega arith) c.index_mut.result.now c.index_mut.ensures.value))
       (subst (λ (z : Recorded). z.spare ≤ c.begin.new.self.spare + 1) (at_next _ _ _ _ _ _ c.self.invariant.1 (subst (λ (z : View). z.board.begun < length z.job.charges) (sym c.self.view_is) c.requires) c.args.off (omega arith) c.index_mut.result.now c.index_mut.ensures.value) c.begin.ensures.spare)
       c.turns_in-self-inside.ensures.turns,
@@ -29,6 +29,6 @@ invariant_of-self c = (
 pub returns-clause-board : goal.returns-clause-board
 returns-clause-board c =
     board_of _ _ _ _ _ _ c.self.invariant.1 (subst (λ (z : View). z.board.begun < length z.job.charges) (sym c.self.view_is) c.requires) c.args.off (omega arith) c.perform-self-inside.new.self c.boot-self-inside.result c.lose_rows.new.pushers.items c.begin.new.self
-    c.perform-self-inside.ensures.after c.boot-self-inside.ensures c.lose_rows.ensures
+    c.perform-self-inside.ensures.after c.boot-self-inside.ensures.begun c.lose_rows.ensures
     (c.begin.ensures.charge ∙ ap (λ (z : Recorded). begun c.args.off z.charge) (at_next _ _ _ _ _ _ c.self.invariant.1 (subst (λ (z : View). z.board.begun < length z.job.charges) (sym c.self.view_is) c.requires) c.args.off (omega arith) c.index_mut.result.now c.index_mut.ensures.value))
     ∙ ap (λ (z : View). cut (setup_of z.job) z.board c.args.off) c.self.view_is

@@ -20,12 +20,12 @@ want-access-requires c =
 pub perform-word-requires-clause-within : goal.perform-word-requires-clause-within
 perform-word-requires-clause-within c =
     within _ _ _ _ _ _ c.self.invariant.1 c.want-access.result (subst (λ (z : View). 0 < z.room) (sym c.self.view_is) c.requires.room)
-    (subst (λ (z : Program). c.want-access.result ≡ at_layout c.self.inside.plan.layout (wants z c.self.inside.kernel)) c.self.invariant.0.0 c.want-access.ensures)
+    (subst (λ (z : Program). c.want-access.result ≡ at_layout c.self.inside.plan.layout (wants z c.self.inside.kernel)) c.self.invariant.0.0 c.want-access.ensures.access)
 
 pub perform-word-requires-clause-fits : goal.perform-word-requires-clause-fits
 perform-word-requires-clause-fits c =
     adds_nothing _ _ _ _ _ _ c.self.invariant.1 c.want-access.result (subst (λ (z : View). 0 < z.room) (sym c.self.view_is) c.requires.room)
-    (subst (λ (z : Program). c.want-access.result ≡ at_layout c.self.inside.plan.layout (wants z c.self.inside.kernel)) c.self.invariant.0.0 c.want-access.ensures)
+    (subst (λ (z : Program). c.want-access.result ≡ at_layout c.self.inside.plan.layout (wants z c.self.inside.kernel)) c.self.invariant.0.0 c.want-access.ensures.access)
 
 pub note_kernel-requires-clause-spare : goal.note_kernel-requires-clause-spare
 note_kernel-requires-clause-spare c = has_spare _ _ _ _ _ _ c.self.invariant.1 (subst (λ (z : View). 0 < z.board.begun) (sym c.self.view_is) c.requires.begun) c.index_mut.result.now c.index_mut.ensures.value (subst (λ (z : View). 0 < z.room) (sym c.self.view_is) c.requires.room)
@@ -37,7 +37,7 @@ pub take-point-requires : goal.take-point-requires
 take-point-requires c =
     subst (λ (z : Program). CanTake z c.self.inside.kernel c.perform-word.result) (sym c.self.invariant.0.0)
     (can_take _ _ _ _ _ _ c.self.invariant.1 c.want-access.result c.perform-word.result (subst (λ (z : View). 0 < z.room) (sym c.self.view_is) c.requires.room)
-    (subst (λ (z : Program). c.want-access.result ≡ at_layout c.self.inside.plan.layout (wants z c.self.inside.kernel)) c.self.invariant.0.0 c.want-access.ensures)
+    (subst (λ (z : Program). c.want-access.result ≡ at_layout c.self.inside.plan.layout (wants z c.self.inside.kernel)) c.self.invariant.0.0 c.want-access.ensures.access)
     c.perform-word.ensures.answer)
 
 pub invariant_of-self : goal.invariant_of-self
@@ -46,7 +46,7 @@ invariant_of-self c = (
   kernel_turn_core _ _ _ _ _ _ c.self.invariant.1 c.want-access.result c.perform-word.result c.perform-word.new.self c.take-point.new.self c.entry_of_point-entry.result c.note_kernel.new.self
       (subst (λ (z : View). 0 < z.board.begun) (sym c.self.view_is) c.requires.begun)
       (subst (λ (z : View). 0 < z.room) (sym c.self.view_is) c.requires.room)
-      (subst (λ (z : Program). c.want-access.result ≡ at_layout c.self.inside.plan.layout (wants z c.self.inside.kernel)) c.self.invariant.0.0 c.want-access.ensures)
+      (subst (λ (z : Program). c.want-access.result ≡ at_layout c.self.inside.plan.layout (wants z c.self.inside.kernel)) c.self.invariant.0.0 c.want-access.ensures.access)
       c.perform-word.ensures.answer
       c.perform-word.ensures.after
       (subst (λ (z : Program). c.take-point.new.self ≡ takes z c.self.inside.kernel c.perform-word.result) c.self.invariant.0.0 c.take-point.ensures.registers)
@@ -61,7 +61,7 @@ pub returns-clause-board : goal.returns-clause-board
 returns-clause-board c =
     kernel_turn_is _ _ _ _ _ _ c.self.invariant.1 c.want-access.result c.perform-word.result
     (subst (λ (z : View). 0 < z.room) (sym c.self.view_is) c.requires.room)
-    (subst (λ (z : Program). c.want-access.result ≡ at_layout c.self.inside.plan.layout (wants z c.self.inside.kernel)) c.self.invariant.0.0 c.want-access.ensures)
+    (subst (λ (z : Program). c.want-access.result ≡ at_layout c.self.inside.plan.layout (wants z c.self.inside.kernel)) c.self.invariant.0.0 c.want-access.ensures.access)
     c.perform-word.ensures.answer
     c.perform-word.new.self c.take-point.new.self c.entry_of_point-entry.result c.note_kernel.new.self
     c.perform-word.ensures.after
@@ -75,7 +75,7 @@ pub returns-clause-made : goal.returns-clause-made
 returns-clause-made c =
     kernel_made_is _ _ _ _ _ _ c.self.invariant.1 c.want-access.result c.perform-word.result
     (subst (λ (z : View). 0 < z.room) (sym c.self.view_is) c.requires.room)
-    (subst (λ (z : Program). c.want-access.result ≡ at_layout c.self.inside.plan.layout (wants z c.self.inside.kernel)) c.self.invariant.0.0 c.want-access.ensures)
+    (subst (λ (z : Program). c.want-access.result ≡ at_layout c.self.inside.plan.layout (wants z c.self.inside.kernel)) c.self.invariant.0.0 c.want-access.ensures.access)
     c.perform-word.ensures.answer
     c.entry_of_point-entry.result
     (c.entry_of_point-entry.ensures ∙ ap (λ z. entry_of_point z) (subst (λ (z : Program). c.take-point.result ≡ point_found z c.self.inside.kernel c.perform-word.result) c.self.invariant.0.0 c.take-point.ensures.point))

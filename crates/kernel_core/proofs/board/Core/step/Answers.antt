@@ -1,4 +1,4 @@
-use Rattle.std.proofs.Common.{◌≡◌, ℕ, List, sym, ap, ◌∙◌, subst}
+use Rattle.std.proofs.Common.{ℕ, List, sym, ap, ◌∙◌, subst}
 use Rattle.kernel_core.specs.declared.made.Made.{Made}
 use Rattle.kernel_core.specs.Board.{Board}
 use Rattle.kernel_core.specs.Core.{setup_of}
