@@ -1,37 +1,36 @@
-use Rattle.std.proofs.Common.{◌+◌, List, get_or, sym, ap, ◌∙◌, subst, arith}
+use Rattle.std.proofs.Common.{◌+◌, List, [], get_or, sym, ap, ◌∙◌, subst, arith}
 use Rattle.task_isa.specs.declared.program.Program.{Program}
 use Rattle.std.proofs.lemmas.List.{get_or_default}
 use Rattle.ink_base.specs.declared.ids.ThreadId.{ThreadId}
 use Rattle.prog_check.specs.Lookup.{no_thread}
-use Rattle.prog_check.specs.Accepted.{IsAccepted}
-use Rattle.ink_layout.specs.Layouts.{IsLayout}
 use Rattle.push_core.specs.Table.{IsPort}
 use Rattle.push_core.specs.declared.port.Port.{Port}
+use Rattle.kernel_core.specs.Core.{job_of}
 use Rattle.kernel_core.proofs.Starts.{acks_fit, srcs_fit, port_is, right_port}
 use Rattle.kernel_core.proofs.start.port_at.Goals as goal
 
 pub overflow_add-result-2 : goal.overflow_add-result-2
-overflow_add-result-2 c = let fit = srcs_fit c.args.job.now c.args.plan.now.layout c.args.i (subst (λ (p : Program). IsAccepted p) c.requires.plan c.program.ensures.accepted)
-    (subst (λ (p : Program). IsLayout p c.args.plan.now.layout) c.requires.plan c.program.ensures.layout) c.requires.known in omega (arith, fit)
+overflow_add-result-2 c = let fit = srcs_fit (job_of c.args.plan.now.accepted [] []) c.args.plan.now.layout c.args.i c.program.ensures.accepted
+    c.program.ensures.layout c.requires in omega (arith, fit)
 
 pub overflow_add-result : goal.overflow_add-result
-overflow_add-result c = let fit = acks_fit c.args.job.now c.args.plan.now.layout c.args.i (subst (λ (p : Program). IsAccepted p) c.requires.plan c.program.ensures.accepted)
-    (subst (λ (p : Program). IsLayout p c.args.plan.now.layout) c.requires.plan c.program.ensures.layout) c.requires.known in omega (arith, fit)
+overflow_add-result c = let fit = acks_fit (job_of c.args.plan.now.accepted [] []) c.args.plan.now.layout c.args.i c.program.ensures.accepted
+    c.program.ensures.layout c.requires in omega (arith, fit)
 
 pub returns-clause-port : goal.returns-clause-port
 returns-clause-port c =
-    let sources = c.as_slice.ensures ∙ ap (λ (p : Program). p.sources) (c.program.ensures.same ∙ c.requires.plan) in
-    let thread = ap (λ (l : List ThreadId). get_or l c.args.i (record { 0 = 0 })) sources ∙ get_or_default c.args.job.now.program.sources c.args.i (record { 0 = 0 }) no_thread c.requires.known in
+    let sources = c.as_slice.ensures ∙ ap (λ (p : Program). p.sources) c.program.ensures.same in
+    let thread = ap (λ (l : List ThreadId). get_or l c.args.i (record { 0 = 0 })) sources ∙ get_or_default c.args.plan.now.accepted.sources c.args.i (record { 0 = 0 }) no_thread c.requires in
     (λ k. record {
       source = record { 0 = c.args.i };
       queue = get_or (c.as_slice-2.ensures k) (thread k).0 (record { tail = 0; slots = 0; places = 0 });
       ack = c.args.plan.now.layout.acks + c.args.i;
       src = c.args.plan.now.layout.srcs + c.args.i;
     })
-    ∙ port_is c.args.job.now c.args.plan.now.layout c.args.i (subst (λ (p : Program). IsAccepted p) c.requires.plan c.program.ensures.accepted)
-    (subst (λ (p : Program). IsLayout p c.args.plan.now.layout) c.requires.plan c.program.ensures.layout) c.requires.known
+    ∙ port_is (job_of c.args.plan.now.accepted [] []) c.args.plan.now.layout c.args.i c.program.ensures.accepted
+    c.program.ensures.layout c.requires
 
 pub returns-clause-right : goal.returns-clause-right
 returns-clause-right c =
     subst (λ (p : Port). IsPort p) (sym (returns-clause-port c))
-    (right_port c.args.job.now (subst (λ (p : Program). IsAccepted p) c.requires.plan c.program.ensures.accepted) c.args.i c.requires.known)
+    (right_port (job_of c.args.plan.now.accepted [] []) c.program.ensures.accepted c.args.i c.requires)
