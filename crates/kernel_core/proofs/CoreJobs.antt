@@ -3,7 +3,7 @@ use Rattle.std.proofs.Common.{◌≡◌, ℕ, zero, suc, ◌+◌, ◌<◌, ◌�
 use Rattle.std.proofs.lemmas.List.{get_or_read}
 use Rattle.std.proofs.lemmas.List.Sums.{sum_by-take-drop, sum_by-drop_more}
 use Rattle.job_parts.specs.declared.charge.Charge.{Charge}
-use Rattle.job_parts.specs.Job.{JobParts, IsJob, item_turns}
+use Rattle.job_parts.specs.Job.{JobParts, IsJob, item_turns, charge_turns}
 use Rattle.kernel_core.specs.Core.{no_charge, turns_in, turns_from}
 
 -- no more turns stand in the charges from one on than in all
@@ -13,12 +13,13 @@ turns_few job k is = let all = sum_by-take-drop (λ (c : Charge). item_turns c.i
 pub turns_split : (job : JobParts) (k : ℕ) → k < length job.charges → turns_from job k ≡ turns_in job k + turns_from job (k + 1)
 turns_split job k lt = sum_by-drop_more (λ (c : Charge). item_turns c.items) job.charges k no_charge lt
 
-pub turns_small : (job : JobParts) (k : ℕ) → IsJob job → k < length job.charges → turns_in job k ≤ 4194304
-turns_small job k is lt = let all = turns_few job k is in let split = turns_split job k lt in omega arith
+pub turns_small : (charges : List Charge) (k : ℕ) → charge_turns charges ≤ 4194304 → k < length charges → item_turns (get_or charges k no_charge).items ≤ 4194304
+turns_small charges k few lt =
+    let all = sum_by-take-drop (λ (c : Charge). item_turns c.items) charges k in let split = sum_by-drop_more (λ (c : Charge). item_turns c.items) charges k no_charge lt in omega arith
 
 -- a charge as a call on an element gives it
-pub charge_is : (job : JobParts) (k : ℕ) (c : Charge) → k < length job.charges → c ≡ get_or job.charges k c → item_turns c.items ≡ turns_in job k
-charge_is job k c lt is = ap (λ (z : Charge). item_turns z.items) (get_or_read job.charges k c lt is no_charge)
+pub charge_is : (charges : List Charge) (k : ℕ) (c : Charge) → k < length charges → c ≡ get_or charges k c → item_turns c.items ≡ item_turns (get_or charges k no_charge).items
+charge_is charges k c lt is = ap (λ (z : Charge). item_turns z.items) (get_or_read charges k c lt is no_charge)
 
 -- all elements, where the index is at the end
 pub taken : {X : Type 0} (xs : List X) (n : ℕ) → length xs ≤ n → take n xs ≡ xs

@@ -4,6 +4,7 @@ use Rattle.std.proofs.lemmas.Bool.{cases_eq}
 use Rattle.std.proofs.lemmas.List.{length-replicate}
 use Rattle.std.proofs.Math.ListN.{get_or-append}
 use Rattle.std.proofs.Math.Seq.{get_or-append_seam}
+use Rattle.task_isa.specs.declared.program.Program.{Program}
 use Rattle.fram_words.specs.declared.layout.Layout.{Layout}
 use Rattle.push_core.specs.Table.{first_row, IsPort}
 use Rattle.push_core.specs.declared.pusher.Pusher.{Pusher}
@@ -71,14 +72,14 @@ module _ (job : JobParts) (l : Layout) (i : ℕ) (accepted : IsAccepted job.prog
   port_is = λ k. record { source = record { 0 = i }; queue = queue_is k; ack = layout.addresses (Ack i) known k; src = layout.addresses (Src i) known k }
 
 -- the machines that a loop over the sources makes
-pub no_pushers : (job : JobParts) → AreFirstPushers job 0 []
-no_pushers job = record { length_is = refl; each = λ i lt. absurd (omega arith) }
+pub no_pushers : (program : Program) → AreFirstPushers program 0 []
+no_pushers program = record { length_is = refl; each = λ i lt. absurd (omega arith) }
 
-pub one_pusher_more : (job : JobParts) (n : ℕ) (pushers : List Pusher) (p : Pusher) → AreFirstPushers job n pushers → p ≡ first_pusher job n → AreFirstPushers job (n + 1) (pushers ++ p ∷ [])
-one_pusher_more job n pushers p h is = record {
+pub one_pusher_more : (program : Program) (n : ℕ) (pushers : List Pusher) (p : Pusher) → AreFirstPushers program n pushers → p ≡ first_pusher program n → AreFirstPushers program (n + 1) (pushers ++ p ∷ [])
+one_pusher_more program n pushers p h is = record {
   length_is = length-append pushers (p ∷ []) ∙ ap (λ k. k + 1) h.length_is;
   each = λ i lt. elim (cases_eq i n) [
-    | inl e ↦ ap (λ z. get_or (pushers ++ p ∷ []) z no_pusher) (e ∙ sym h.length_is) ∙ (get_or-append_seam pushers p [] no_pusher ∙ (is ∙ ap (λ z. first_pusher job z) (sym e)))
+    | inl e ↦ ap (λ z. get_or (pushers ++ p ∷ []) z no_pusher) (e ∙ sym h.length_is) ∙ (get_or-append_seam pushers p [] no_pusher ∙ (is ∙ ap (λ z. first_pusher program z) (sym e)))
     | inr ne ↦ get_or-append pushers (p ∷ []) no_pusher i (let e = h.length_is in omega arith) ∙ h.each i (omega arith)
   ];
 }
@@ -98,7 +99,7 @@ one_record_more job n records r h is = record {
 }
 
 module _ (job : JobParts) (words : List ℕ) (pushers : List Pusher) (records : List Recorded) (g : IsSetup (setup_of job)) (is : IsJob job) (image : IsFirstImage job.program words)
-    (ps : AreFirstPushers job (length job.program.sources) pushers) (rs : AreFirstRecords job (length job.charges) records) where
+    (ps : AreFirstPushers job.program (length job.program.sources) pushers) (rs : AreFirstRecords job (length job.charges) records) where
   abbrev Fields : Board
   Fields = record { words = words; kernel = first_kernel; rows = map row_in pushers; charges = map charge_in records; begun = 0 }
 

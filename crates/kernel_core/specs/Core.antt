@@ -2,6 +2,7 @@
 use Rattle.std.specs.Prelude.{◌≡◌, ℕ, ◌+◌, ◌-◌, ◌*◌, ◌^◌, ◌<◌, ◌≤◌, List, length, map, drop, slice_index, slice_index_or, []}
 use Rattle.fram_words.specs.declared.layout.Layout.{Layout}
 use Rattle.ink_layout.specs.Layouts.{IsLayout}
+use Rattle.task_isa.specs.declared.program.Program.{Program}
 use Rattle.job_parts.specs.Job.{JobParts, item_turns, charge_turns}
 use Rattle.ink_base.specs.declared.actor.Actor.TheVariants as actors
 use Rattle.job_parts.specs.declared.charge.Charge.{Charge}
@@ -17,6 +18,10 @@ use Rattle.kernel_core.specs.Record.{ChargeRecord, not_begun}
 use Rattle.kernel_core.specs.Recorded.{Recorded}
 use Rattle.kernel_core.specs.Board.{Setup, Board, sides}
 use Rattle.kernel_core.specs.Holds.{IsSetup, Holds, state}
+
+-- the job of these parts
+abbrev pub job_of : Program → List (List ℕ) → List Charge → JobParts
+job_of program readings charges = record { program = program; readings = readings; charges = charges }
 
 -- the program and the readings of a job
 abbrev pub setup_of : JobParts → Setup

@@ -1,22 +1,28 @@
 -- What a core is made of, before the first charge.
-use Rattle.std.specs.Prelude.{◌≡◌, ℕ, ◌<◌, List, length, slice_index_or}
+use Rattle.std.specs.Prelude.{◌≡◌, ℕ, ◌<◌, List, [], length, slice_index_or}
+use Rattle.task_isa.specs.declared.program.Program.{Program}
 use Rattle.push_core.specs.Table.{first_row}
+use Rattle.push_core.specs.declared.port.Port.{Port}
 use Rattle.push_core.specs.declared.pusher.Pusher.{Pusher}
 use Rattle.job_parts.specs.Job.{JobParts}
 use Rattle.source_laws.specs.Rows.{port_of}
 use Rattle.kernel_core.specs.Record.{not_begun}
 use Rattle.kernel_core.specs.Recorded.{Recorded}
 use Rattle.kernel_core.specs.Board.{sides}
-use Rattle.kernel_core.specs.Core.{setup_of, turns_in, no_pusher, none_recorded}
+use Rattle.kernel_core.specs.Core.{setup_of, job_of, turns_in, no_pusher, none_recorded}
+
+-- where the words of source i of a program stand, whatever its readings
+abbrev pub port_in : Program → ℕ → Port
+port_in program i = port_of (sides (setup_of (job_of program [] []))) i
 
 -- source i before its first access
-abbrev pub first_pusher : JobParts → ℕ → Pusher
-first_pusher job i = record { port = port_of (sides (setup_of job)) i; row = first_row }
+abbrev pub first_pusher : Program → ℕ → Pusher
+first_pusher program i = record { port = port_in program i; row = first_row }
 
 -- the machines of the first so many sources
-pub record AreFirstPushers (job : JobParts) (count : ℕ) (pushers : List Pusher) : Type 0 where
+pub record AreFirstPushers (program : Program) (count : ℕ) (pushers : List Pusher) : Type 0 where
   pub length_is : length pushers ≡ count
-  pub each : (i : ℕ) → i < count → slice_index_or pushers i no_pusher ≡ first_pusher job i
+  pub each : (i : ℕ) → i < count → slice_index_or pushers i no_pusher ≡ first_pusher program i
 
 -- a charge that has not begun, with room for the tick at its start and the turns that the job lists
 pub record IsFirstRecord (job : JobParts) (k : ℕ) (r : Recorded) : Type 0 where

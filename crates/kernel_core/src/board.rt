@@ -1,5 +1,5 @@
 //! The board of a job and its turns.
-ghost use Rattle.std.specs.Prelude.{◌≡◌, ◌+◌, ◌<◌, ◌≤◌, [], length, map, vec_capacity, Some};
+ghost use Rattle.std.specs.Prelude.{◌≡◌, ◌+◌, ◌<◌, ◌≤◌, [], length, map, slice_index_or, vec_capacity, Some};
 ghost use Rattle.ink_layout.specs.Points.{entry_of_point};
 ghost use Rattle.ink_layout.specs.Image.{IsFirstImage};
 ghost use Rattle.task_run.specs.Knows.{HasCode};
@@ -12,9 +12,9 @@ ghost use Rattle.kernel_core.specs.Moves.{IsActor};
 ghost use Rattle.kernel_core.specs.Made.{made_by, kernel_made, access_made, source_makes, clock_made, nothing_made, accesses_in};
 ghost use Rattle.kernel_core.specs.Settling.{RefusalsKeep, SkipsStore};
 ghost use Rattle.kernel_core.specs.RunRecords.{RecordStands};
-ghost use Rattle.job_parts.specs.Job.{IsJob};
+ghost use Rattle.job_parts.specs.Job.{IsJob, item_turns, charge_turns};
 ghost use Rattle.kernel_core.specs.Starts.{AreFirstPushers, AreFirstRecords};
-ghost use Rattle.kernel_core.specs.Core.{View, IsCore, setup_of, row_in, charge_in, rebooted, turns_in};
+ghost use Rattle.kernel_core.specs.Core.{View, IsCore, setup_of, row_in, charge_in, rebooted, turns_in, no_charge, job_of};
 
 use crate::charge_record::ChargeRecord;
 use crate::kernel::Kernel;
@@ -25,7 +25,7 @@ use crate::start::Start;
 use fram_words::{Access, Fram};
 use ink_base::{Actor, Entry, SourceId};
 use ink_layout::{KernelPoint, Plan};
-use job_parts::Job;
+use job_parts::{Charge, Job};
 use push_core::{Point, Pusher, Row};
 use sqlite_items::Items;
 use std::marker::Model;
@@ -35,8 +35,9 @@ use task_run::read_code_back;
 /// job, the board, and for how many turns of the charge at hand there is room.
 #[derive(Drop)]
 pub struct Core {
-    job: Job,
     plan: Plan,
+    readings: Items<Items<u32>>,
+    listed: Items<Charge>,
     fram: Fram,
     kernel: Kernel,
     pushers: Vec<Pusher>,
@@ -49,28 +50,29 @@ pub struct Core {
 impl Model for Core {
     ghost Value = { View };
 
-    ghost view = { λ c. record { job = c.job; board = record { words = c.fram; kernel = c.kernel; rows = map row_in c.pushers.items; charges = map charge_in c.charges.items; begun = c.begun }; room = c.room } };
+    ghost view = { λ c. record { job = job_of c.plan.accepted c.readings c.listed; board = record { words = c.fram; kernel = c.kernel; rows = map row_in c.pushers.items; charges = map charge_in c.charges.items; begun = c.begun }; room = c.room } };
 
-    ghost invariant = { λ c. ((c.plan.accepted ≡ c.job.program) × (c.kept.items ≡ []) × (length c.job.charges ≤ vec_capacity c.kept)) × IsCore c.job c.plan.layout (record { words = c.fram; kernel = c.kernel; rows = map row_in c.pushers.items; charges = map charge_in c.charges.items; begun = c.begun }) c.room c.pushers.items c.charges.items };
+    ghost invariant = { λ c. (IsJob (job_of c.plan.accepted c.readings c.listed) × (c.kept.items ≡ []) × (length c.listed ≤ vec_capacity c.kept)) × IsCore (job_of c.plan.accepted c.readings c.listed) c.plan.layout (record { words = c.fram; kernel = c.kernel; rows = map row_in c.pushers.items; charges = map charge_in c.charges.items; begun = c.begun }) c.room c.pushers.items c.charges.items };
 }
 
 impl Core {
-    // The core of a job whose parts are as they are before the first charge.
-    pub(crate) fn begin(job: Job, start: Start) -> Core
-        requires job { IsJob job }
-        requires plan { start.plan.accepted ≡ job.program }
-        requires image { IsFirstImage job.program start.fram }
-        requires pushers { AreFirstPushers job (length job.program.sources) start.pushers.items }
-        requires charges { AreFirstRecords job (length job.charges) start.charges.items }
+    // The core of a job from what it begins with.
+    pub(crate) fn begin(start: Start) -> Core
+        requires job { IsJob (job_of start.plan.accepted start.readings start.listed) }
+        requires image { IsFirstImage start.plan.accepted start.fram }
+        requires pushers { AreFirstPushers start.plan.accepted (length start.plan.accepted.sources) start.pushers.items }
+        requires charges { AreFirstRecords (job_of start.plan.accepted start.readings start.listed) (length start.listed) start.charges.items }
         requires empty { start.kept.items ≡ [] }
-        requires space { length job.charges ≤ vec_capacity start.kept }
-        ensures job { result.job ≡ job }
+        requires space { length start.listed ≤ vec_capacity start.kept }
+        ensures job { result.job ≡ job_of start.plan.accepted start.readings start.listed }
         ensures words { result.board.words ≡ start.fram }
-        ensures board { result.board ≡ first_board (setup_of job) start.fram (length job.charges) }
-        ensures code { HasCode job.program }
+        ensures board { result.board ≡ first_board (setup_of (job_of start.plan.accepted start.readings start.listed)) start.fram (length start.listed) }
+        ensures code { HasCode start.plan.accepted }
     {
         let Start {
             plan,
+            readings,
+            listed,
             fram,
             pushers,
             charges,
@@ -78,8 +80,9 @@ impl Core {
         } = start;
         read_code_back(plan.program());
         Core {
-            job,
             plan,
+            readings,
+            listed,
             fram,
             kernel: Kernel::boot(),
             pushers,
@@ -99,8 +102,9 @@ impl Core {
         ensures stands { RecordStands result }
     {
         let Core {
-            job,
-            plan: _,
+            plan,
+            readings,
+            listed,
             fram,
             kernel: _,
             pushers: _,
@@ -109,17 +113,23 @@ impl Core {
             room: _,
             kept,
         } = self;
+        let Plan {
+            accepted,
+            layout: _,
+        } = plan;
         RunRecord {
-            job,
+            job: Job::new(accepted, readings, listed),
             charges: finished(charges, kept),
             words: Items::from_vec(fram.into_words()),
         }
     }
 
-    pub(crate) fn job(&self) -> &Job
-        ensures { result.now ≡ self.now.job }
+    // The charges that the job lists.
+    pub(crate) fn listed(&self) -> &[Charge]
+        ensures same { result.now ≡ self.now.job.charges }
+        ensures job { IsJob self.now.job }
     {
-        &self.job
+        self.listed.as_slice()
     }
 
     /// The words of the board, which stand for the never-cut kernel after the journal so far.
@@ -179,7 +189,7 @@ impl Core {
         self.kernel = Kernel::boot();
         lose_rows(&mut self.pushers);
         self.charges[self.begun].begin(off);
-        self.room = turns_in(&self.job, self.begun);
+        self.room = turns_in(self.listed.as_slice(), self.begun);
         self.begun += 1;
     }
 
@@ -269,7 +279,7 @@ impl Core {
         requires known { source.0 < length self.now.job.program.sources }
         ensures { result ≡ want_of (port_of (sides (setup_of self.now.job)) source.0) (readings_of self.now.job.readings source.0) (row_of self.now.board source.0) }
     {
-        let readings = readings_at(&self.job, source);
+        let readings = readings_at(&self.readings, source);
         self.pushers[source.0 as usize].want(readings)
     }
 
@@ -286,7 +296,7 @@ impl Core {
     {
         let i = source.0 as usize;
         let word = self.fram.perform(access);
-        let readings = readings_at(&self.job, source);
+        let readings = readings_at(&self.readings, source);
         let point = self.pushers[i].take(readings, word);
         let entry = entry_of_source(source, point);
         self.charges[self.begun - 1].note_source(i, entry);
@@ -308,25 +318,26 @@ fn lose_rows(pushers: &mut Vec<Pusher>)
     }
 }
 
-// The turns that a charge of the job lists.
-pub(crate) fn turns_in(job: &Job, charge: usize) -> u64
-    requires { charge < length job.now.charges }
-    ensures turns { result ≡ turns_in job.now charge }
+// The turns that a charge lists.
+pub(crate) fn turns_in(charges: &[Charge], k: usize) -> u64
+    requires known { k < length charges.now }
+    requires few { charge_turns charges.now ≤ 4194304 }
+    ensures turns { result ≡ item_turns (slice_index_or charges.now k no_charge).items }
     ensures few { result ≤ 4194304 }
 {
     let mut turns = 0;
-    for item in job.charges()[charge].items.as_slice() {
+    for item in charges[k].items.as_slice() {
         turns += item.count as u64;
     }
     turns
 }
 
 // The readings of a source.
-fn readings_at(job: &Job, source: SourceId) -> &[u32]
-    requires { source.0 < length job.now.program.sources }
-    ensures { result.now ≡ readings_of job.now.readings source.0 }
+fn readings_at(readings: &Items<Items<u32>>, source: SourceId) -> &[u32]
+    requires { source.0 < length readings.now }
+    ensures { result.now ≡ readings_of readings.now source.0 }
 {
-    job.readings()[source.0 as usize].as_slice()
+    readings.as_slice()[source.0 as usize].as_slice()
 }
 
 fn nothing_made() -> Made

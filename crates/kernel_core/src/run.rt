@@ -8,7 +8,7 @@ ghost use Rattle.kernel_core.specs.Moves.{IsActor};
 ghost use Rattle.kernel_core.specs.Core.{setup_of, charge_def, no_item};
 
 use crate::board::Core;
-use job_parts::{Item, Job};
+use job_parts::Item;
 
 impl Core {
     /// The whole run of the job: for each charge in order a cut with its dark ticks, and then the turns of its items in order.
@@ -18,7 +18,7 @@ impl Core {
         ensures stands { BoardStands (setup_of self.new.job) self.new.board }
         ensures job { self.new.job ≡ self.old.job }
     {
-        for n in 0..self.job().charges().len() {
+        for n in 0..self.listed().len() {
             self.run_charge(n);
         }
         self.stands();
@@ -31,9 +31,9 @@ impl Core {
         ensures begun { self.new.board.begun ≡ n + 1 }
         ensures job { self.new.job ≡ self.old.job }
     {
-        self.cut(off_at(self.job(), n));
-        for k in 0..items_at(self.job(), n) {
-            self.run_item(item_at(self.job(), n, k));
+        self.cut(self.off_at(n));
+        for k in 0..self.items_at(n) {
+            self.run_item(self.item_at(n, k));
         }
     }
 
@@ -50,30 +50,30 @@ impl Core {
             self.step(item.actor);
         }
     }
-}
 
-// The ticks that the board is dark before a charge.
-fn off_at(job: &Job, n: usize) -> u32
-    requires { n < length job.now.charges }
-    ensures { result ≡ (charge_def job.now n).off }
-{
-    job.charges()[n].off
-}
+    // The ticks that the board is dark before a charge.
+    fn off_at(&self, n: usize) -> u32
+        requires { n < length self.now.job.charges }
+        ensures { result ≡ (charge_def self.now.job n).off }
+    {
+        self.listed()[n].off
+    }
 
-// The number of items of a charge.
-fn items_at(job: &Job, n: usize) -> usize
-    requires { n < length job.now.charges }
-    ensures { result ≡ length (charge_def job.now n).items }
-{
-    job.charges()[n].items.len()
-}
+    // The number of items of a charge.
+    fn items_at(&self, n: usize) -> usize
+        requires { n < length self.now.job.charges }
+        ensures { result ≡ length (charge_def self.now.job n).items }
+    {
+        self.listed()[n].items.len()
+    }
 
-// An item of a charge.
-fn item_at(job: &Job, n: usize, k: usize) -> Item
-    requires charge { n < length job.now.charges }
-    requires item { k < length (charge_def job.now n).items }
-    ensures same { result ≡ slice_index_or (charge_def job.now n).items k no_item }
-    ensures known { IsActor (setup_of job.now) result.actor }
-{
-    job.charges()[n].items.as_slice()[k]
+    // An item of a charge.
+    fn item_at(&self, n: usize, k: usize) -> Item
+        requires charge { n < length self.now.job.charges }
+        requires item { k < length (charge_def self.now.job n).items }
+        ensures same { result ≡ slice_index_or (charge_def self.now.job n).items k no_item }
+        ensures known { IsActor (setup_of self.now.job) result.actor }
+    {
+        self.listed()[n].items.as_slice()[k]
+    }
 }

@@ -1,14 +1,13 @@
 //! A board before its first charge.
 ghost use Rattle.std.specs.Prelude.{◌≡◌, ◌<◌, ◌≤◌, [], length, vec_capacity, IfOk};
 ghost use Rattle.push_core.specs.Table.{IsPort};
-ghost use Rattle.source_laws.specs.Rows.{port_of};
 ghost use Rattle.ink_layout.specs.Image.{IsFirstImage};
 ghost use Rattle.task_run.specs.Knows.{HasCode};
-ghost use Rattle.kernel_core.specs.Board.{sides, first_board};
+ghost use Rattle.kernel_core.specs.Board.{first_board};
 ghost use Rattle.kernel_core.specs.Holds.{BoardStands};
-ghost use Rattle.kernel_core.specs.Core.{setup_of};
+ghost use Rattle.kernel_core.specs.Core.{setup_of, job_of};
 ghost use Rattle.job_parts.specs.Job.{IsJob};
-ghost use Rattle.kernel_core.specs.Starts.{IsFirstRecord, AreFirstPushers, AreFirstRecords};
+ghost use Rattle.kernel_core.specs.Starts.{port_in, IsFirstRecord, AreFirstPushers, AreFirstRecords};
 
 use crate::board::{Core, turns_in};
 use crate::charge_record::ChargeRecord;
@@ -16,8 +15,9 @@ use crate::recording::Recording;
 use fram_words::{Fram, Place};
 use ink_base::{NoMemory, SourceId};
 use ink_layout::{Plan, first_image};
-use job_parts::Job;
+use job_parts::{Charge, Job};
 use push_core::{Port, Pusher};
+use sqlite_items::Items;
 use std::alloc::Global;
 
 /// The board of a job before its first charge: the words of the first image, no entry of a journal, and room for the entries of every
@@ -32,16 +32,18 @@ pub fn prepare(alloc: Global, job: Job) -> Result<Core, NoMemory>
     ensures limits { IfOk result (λ _. IsJob job) }
     ensures code { IfOk result (λ _. HasCode job.program) }
 {
-    let start = Start::of(alloc, &job)?;
-    let core = Core::begin(job, start);
+    let start = Start::of(alloc, job)?;
+    let core = Core::begin(start);
     core.stands();
     Ok(core)
 }
 
-/// What a core is made of beside its job.
+/// What a core begins with: the job in its parts, and what the job's run needs beside it.
 #[derive(Drop)]
 pub(crate) struct Start {
     pub plan: Plan,
+    pub readings: Items<Items<u32>>,
+    pub listed: Items<Charge>,
     pub fram: Fram,
     pub pushers: Vec<Pusher>,
     pub charges: Vec<Recording>,
@@ -49,22 +51,25 @@ pub(crate) struct Start {
 }
 
 impl Start {
-    fn of(alloc: Global, job: &Job) -> Result<Start, NoMemory>
-        ensures job { IfOk result (λ _. IsJob job.now) }
-        ensures plan { IfOk result (λ start. start.plan.accepted ≡ job.now.program) }
-        ensures image { IfOk result (λ start. IsFirstImage job.now.program start.fram) }
-        ensures pushers { IfOk result (λ start. AreFirstPushers job.now (length job.now.program.sources) start.pushers.items) }
-        ensures charges { IfOk result (λ start. AreFirstRecords job.now (length job.now.charges) start.charges.items) }
+    fn of(alloc: Global, job: Job) -> Result<Start, NoMemory>
+        ensures job { IfOk result (λ start. job_of start.plan.accepted start.readings start.listed ≡ job) }
+        ensures limits { IfOk result (λ start. IsJob (job_of start.plan.accepted start.readings start.listed)) }
+        ensures image { IfOk result (λ start. IsFirstImage start.plan.accepted start.fram) }
+        ensures pushers { IfOk result (λ start. AreFirstPushers start.plan.accepted (length start.plan.accepted.sources) start.pushers.items) }
+        ensures charges { IfOk result (λ start. AreFirstRecords (job_of start.plan.accepted start.readings start.listed) (length start.listed) start.charges.items) }
         ensures empty { IfOk result (λ start. start.kept.items ≡ []) }
-        ensures space { IfOk result (λ start. length job.now.charges ≤ vec_capacity start.kept) }
+        ensures space { IfOk result (λ start. length start.listed ≤ vec_capacity start.kept) }
     {
-        let plan = Plan::new(alloc, job.accepted().copy(alloc)?)?;
-        let fram = first_image(alloc, &plan.accepted, &plan.layout)?;
-        let pushers = first_pushers(alloc, job, &plan)?;
-        let charges = first_records(alloc, job)?;
+        let charges = first_records(alloc, &job)?;
         let kept = Vec::with_capacity(alloc, job.charges().len())?;
+        let (accepted, readings, listed) = job.into_parts();
+        let plan = Plan::new(alloc, accepted)?;
+        let fram = first_image(alloc, &plan.accepted, &plan.layout)?;
+        let pushers = first_pushers(alloc, &plan)?;
         Ok(Start {
             plan,
+            readings,
+            listed,
             fram,
             pushers,
             charges,
@@ -73,22 +78,20 @@ impl Start {
     }
 }
 
-fn first_pushers(alloc: Global, job: &Job, plan: &Plan) -> Result<Vec<Pusher>, NoMemory>
-    requires { plan.now.accepted ≡ job.now.program }
-    ensures { IfOk result (λ pushers. AreFirstPushers job.now (length job.now.program.sources) pushers.items) }
+fn first_pushers(alloc: Global, plan: &Plan) -> Result<Vec<Pusher>, NoMemory>
+    ensures { IfOk result (λ pushers. AreFirstPushers plan.now.accepted (length plan.now.accepted.sources) pushers.items) }
 {
     let mut pushers = Vec::new(alloc);
     for i in 0..plan.program().sources.len() {
-        pushers.push(Pusher::boot(port_at(job, plan, i)))?;
+        pushers.push(Pusher::boot(port_at(plan, i)))?;
     }
     Ok(pushers)
 }
 
 // Where the words of a source stand.
-fn port_at(job: &Job, plan: &Plan, i: usize) -> Port
-    requires plan { plan.now.accepted ≡ job.now.program }
-    requires known { i < length job.now.program.sources }
-    ensures port { result ≡ port_of (sides (setup_of job.now)) i }
+fn port_at(plan: &Plan, i: usize) -> Port
+    requires { i < length plan.now.accepted.sources }
+    ensures port { result ≡ port_in plan.now.accepted i }
     ensures right { IsPort result }
 {
     let thread = plan.program().sources.as_slice()[i];
@@ -116,6 +119,6 @@ fn first_record(alloc: Global, job: &Job, k: usize) -> Result<Recording, NoMemor
     ensures { IfOk result (λ r. IsFirstRecord job.now k r) }
 {
     let sources = job.readings().len();
-    let room = turns_in(job, k) as usize + 1;
+    let room = turns_in(job.charges(), k) as usize + 1;
     Recording::new(alloc, sources, room)
 }

@@ -13,7 +13,7 @@ loop-item-init c = refl
 pub overflow_add-turns : goal.overflow_add-turns
 overflow_add-turns c =
     let all = sum_by_more_le (λ (item : Item). item.count) c.as_slice-item-items.result.now c.loop-item.item-index no_item c.loop-item-test.true in
-    let few : item_turns c.as_slice-item-items.result.now ≤ 4194304 = subst (λ n. n ≤ 4194304) (sym (ap (λ z. item_turns z) c.as_slice-item-items.ensures ∙ (ap (λ (z : Charge). item_turns z.items) (sym c.index-charges-charge.is) ∙ charge_is c.args.job.now c.args.charge c.index-charges-charge.result c.requires (subst (λ z. c.index-charges-charge.result ≡ get_or z c.args.charge c.index-charges-charge.result) c.charges.ensures.same c.index-charges-charge.is)))) (turns_small c.args.job.now c.args.charge c.charges.ensures.job c.requires) in
+    let few : item_turns c.as_slice-item-items.result.now ≤ 4194304 = subst (λ n. n ≤ 4194304) (sym (ap (λ z. item_turns z) c.as_slice-item-items.ensures ∙ (ap (λ (z : Charge). item_turns z.items) (sym c.index-charges-k.is) ∙ charge_is c.args.charges.now c.args.k c.index-charges-k.result c.requires.known c.index-charges-k.is))) (turns_small c.args.charges.now c.args.k c.requires.few c.requires.known) in
     let so_far = c.loop-item.invariant in
     omega arith
 
@@ -25,10 +25,10 @@ loop-item-preserved c =
 pub returns-clause-turns : goal.returns-clause-turns
 returns-clause-turns c =
     c.loop-item.invariant ∙ (taken_all (λ (item : Item). item.count) c.as_slice-item-items.result.now c.loop-item.item-index c.loop-item-test.false ∙
-    (ap (λ z. item_turns z) c.as_slice-item-items.ensures ∙ (ap (λ (z : Charge). item_turns z.items) (sym c.index-charges-charge.is) ∙ charge_is c.args.job.now c.args.charge c.index-charges-charge.result c.requires (subst (λ z. c.index-charges-charge.result ≡ get_or z c.args.charge c.index-charges-charge.result) c.charges.ensures.same c.index-charges-charge.is))))
+    (ap (λ z. item_turns z) c.as_slice-item-items.ensures ∙ (ap (λ (z : Charge). item_turns z.items) (sym c.index-charges-k.is) ∙ charge_is c.args.charges.now c.args.k c.index-charges-k.result c.requires.known c.index-charges-k.is)))
 
 pub returns-clause-few : goal.returns-clause-few
 returns-clause-few c =
     subst (λ n. n ≤ 4194304) (sym (c.loop-item.invariant ∙ (taken_all (λ (item : Item). item.count) c.as_slice-item-items.result.now c.loop-item.item-index c.loop-item-test.false ∙
-    (ap (λ z. item_turns z) c.as_slice-item-items.ensures ∙ (ap (λ (z : Charge). item_turns z.items) (sym c.index-charges-charge.is) ∙ charge_is c.args.job.now c.args.charge c.index-charges-charge.result c.requires (subst (λ z. c.index-charges-charge.result ≡ get_or z c.args.charge c.index-charges-charge.result) c.charges.ensures.same c.index-charges-charge.is))))))
-    (turns_small c.args.job.now c.args.charge c.charges.ensures.job c.requires)
+    (ap (λ z. item_turns z) c.as_slice-item-items.ensures ∙ (ap (λ (z : Charge). item_turns z.items) (sym c.index-charges-k.is) ∙ charge_is c.args.charges.now c.args.k c.index-charges-k.result c.requires.known c.index-charges-k.is)))))
+    (turns_small c.args.charges.now c.args.k c.requires.few c.requires.known)

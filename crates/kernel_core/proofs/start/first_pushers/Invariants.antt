@@ -2,4 +2,4 @@ use Rattle.kernel_core.specs.Starts.{AreFirstPushers}
 use Rattle.kernel_core.proofs.start.first_pushers.Given as goal
 
 abbrev pub invariant-loop-i : goal.invariant-loop-i
-invariant-loop-i l = AreFirstPushers l.job l.i l.pushers.items
+invariant-loop-i l = AreFirstPushers l.plan.accepted l.i l.pushers.items

@@ -1,27 +1,26 @@
-use Rattle.std.proofs.Common.{List, get_or, sym, ap, ◌∙◌, subst}
+use Rattle.std.proofs.Common.{List, [], get_or, sym, ap, ◌∙◌, subst}
 use Rattle.task_isa.specs.declared.program.Program.{Program}
 use Rattle.std.proofs.lemmas.List.{get_or_default}
 use Rattle.ink_base.specs.declared.ids.ThreadId.{ThreadId}
 use Rattle.push_core.specs.Table.{IsPort}
 use Rattle.prog_check.specs.Lookup.{no_thread}
-use Rattle.prog_check.specs.Accepted.{IsAccepted}
-use Rattle.ink_layout.specs.Layouts.{IsLayout}
+use Rattle.kernel_core.specs.Core.{job_of}
 use Rattle.kernel_core.proofs.Starts.{port_is, right_port}
 use Rattle.kernel_core.proofs.start.port_at.Goals as goal
 
 pub returns-clause-port : goal.returns-clause-port
 returns-clause-port c =
-    let sources = c.as_slice.ensures ∙ ap (λ (p : Program). p.sources) (c.program.ensures.same ∙ c.requires.plan) in
-    let thread = ap (λ (l : List ThreadId). get_or l c.args.i (record { 0 = 0 })) sources ∙ get_or_default c.args.job.now.program.sources c.args.i (record { 0 = 0 }) no_thread c.requires.known in
+    let sources = c.as_slice.ensures ∙ ap (λ (p : Program). p.sources) c.program.ensures.same in
+    let thread = ap (λ (l : List ThreadId). get_or l c.args.i (record { 0 = 0 })) sources ∙ get_or_default c.args.plan.now.accepted.sources c.args.i (record { 0 = 0 }) no_thread c.requires in
     (λ k. record {
       source = record { 0 = c.args.i };
       queue = get_or (c.as_slice-2.ensures k) (thread k).0 (record { tail = 0; slots = 0; places = 0 });
       ack = c.address.ensures k;
       src = c.address-2.ensures k;
     })
-    ∙ port_is c.args.job.now c.args.plan.now.layout c.args.i (subst (λ (p : Program). IsAccepted p) c.requires.plan c.program.ensures.accepted)
-    (subst (λ (p : Program). IsLayout p c.args.plan.now.layout) c.requires.plan c.program.ensures.layout) c.requires.known
+    ∙ port_is (job_of c.args.plan.now.accepted [] []) c.args.plan.now.layout c.args.i c.program.ensures.accepted
+    c.program.ensures.layout c.requires
 
 pub returns-clause-right : goal.returns-clause-right
 returns-clause-right c =
-    subst IsPort (sym (returns-clause-port c)) (right_port c.args.job.now (subst (λ (p : Program). IsAccepted p) c.requires.plan c.program.ensures.accepted) c.args.i c.requires.known)
+    subst IsPort (sym (returns-clause-port c)) (right_port (job_of c.args.plan.now.accepted [] []) c.program.ensures.accepted c.args.i c.requires)

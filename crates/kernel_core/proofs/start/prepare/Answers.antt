@@ -1,6 +1,26 @@
-use Rattle.std.proofs.Common.{ℕ, List, sym, subst}
+use Rattle.std.proofs.Common.{ℕ, List, length, sym, ◌∙◌, subst}
 use Rattle.ink_layout.specs.Image.{IsFirstImage}
+use Rattle.job_parts.specs.Job.{JobParts, IsJob}
+use Rattle.task_run.specs.Knows.{HasCode}
+use Rattle.kernel_core.specs.Board.{first_board}
+use Rattle.kernel_core.specs.Core.{setup_of}
 use Rattle.kernel_core.proofs.start.prepare.Goals as goal
 
+pub returns-clause-job : goal.returns-clause-job
+returns-clause-job c = c.begin-core.ensures.job ∙ c.in_ok-start.ensures.job
+
 pub returns-clause-image : goal.returns-clause-image
-returns-clause-image c = subst (λ (words : List ℕ). IsFirstImage c.args.job.program words) (sym c.begin-core.ensures.words) c.in_ok-start.ensures.image
+returns-clause-image c =
+    subst (λ (z : JobParts). IsFirstImage z.program c.begin-core.result.board.words) c.in_ok-start.ensures.job
+    (subst (λ (words : List ℕ). IsFirstImage c.in_ok-start.start.plan.accepted words) (sym c.begin-core.ensures.words) c.in_ok-start.ensures.image)
+
+pub returns-clause-board : goal.returns-clause-board
+returns-clause-board c =
+    c.begin-core.ensures.board
+    ∙ (λ i. first_board (setup_of (c.in_ok-start.ensures.job i)) (sym c.begin-core.ensures.words i) (length (c.in_ok-start.ensures.job i).charges))
+
+pub returns-clause-limits : goal.returns-clause-limits
+returns-clause-limits c = subst (λ (z : JobParts). IsJob z) c.in_ok-start.ensures.job c.in_ok-start.ensures.limits
+
+pub returns-clause-code : goal.returns-clause-code
+returns-clause-code c = subst (λ (z : JobParts). HasCode z.program) c.in_ok-start.ensures.job c.begin-core.ensures.code

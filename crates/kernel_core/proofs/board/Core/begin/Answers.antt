@@ -1,30 +1,29 @@
 use Rattle.std.proofs.Common.{map, sym, ◌∙◌, subst}
 use Rattle.task_isa.specs.declared.program.Program.{Program}
-use Rattle.ink_layout.specs.Layouts.{IsLayout}
 use Rattle.task_run.specs.Knows.{HasCode}
 use Rattle.kernel_core.specs.declared.kernel.Kernel.{Kernel}
 use Rattle.kernel_core.specs.Holds.{IsSetup}
-use Rattle.kernel_core.specs.Core.{IsCore, setup_of, row_in, charge_in}
+use Rattle.kernel_core.specs.Core.{IsCore, setup_of, job_of, row_in, charge_in}
 use Rattle.kernel_core.proofs.JobMoves.{job_setup}
 use Rattle.kernel_core.proofs.Starts.{first_core, first_fields}
 use Rattle.kernel_core.proofs.board.Core.begin.Goals as goal
 
-is_setup : (c : goal.After-boot) → IsSetup (setup_of c.args.job)
-is_setup c = job_setup c.args.job c.requires.job (subst (λ (p : Program). HasCode p) (c.program.ensures.same ∙ c.requires.plan) c.read_code_back.ensures)
+is_setup : (c : goal.After-boot) → IsSetup (setup_of (job_of c.args.start.plan.accepted c.args.start.readings c.args.start.listed))
+is_setup c = job_setup (job_of c.args.start.plan.accepted c.args.start.readings c.args.start.listed) c.requires.job (subst (λ (p : Program). HasCode p) c.program.ensures.same c.read_code_back.ensures)
 
 pub invariant_of-result : goal.invariant_of-result
 invariant_of-result c = (
-  (c.requires.plan, c.requires.empty, c.requires.space),
-  subst (λ (k : Kernel). IsCore c.args.job c.args.start.plan.layout (record { words = c.args.start.fram; kernel = k; rows = map row_in c.args.start.pushers.items; charges = map charge_in c.args.start.charges.items; begun = 0 }) 0 c.args.start.pushers.items c.args.start.charges.items)
+  (c.requires.job, c.requires.empty, c.requires.space),
+  subst (λ (k : Kernel). IsCore (job_of c.args.start.plan.accepted c.args.start.readings c.args.start.listed) c.args.start.plan.layout (record { words = c.args.start.fram; kernel = k; rows = map row_in c.args.start.pushers.items; charges = map charge_in c.args.start.charges.items; begun = 0 }) 0 c.args.start.pushers.items c.args.start.charges.items)
       (sym c.boot.ensures.begun)
-      (first_core c.args.job c.args.start.fram c.args.start.pushers.items c.args.start.charges.items (is_setup c) c.requires.job c.requires.image c.requires.pushers c.requires.charges c.args.start.plan.layout
-      (subst (λ (p : Program). IsLayout p c.args.start.plan.layout) c.requires.plan c.program.ensures.layout)),
+      (first_core (job_of c.args.start.plan.accepted c.args.start.readings c.args.start.listed) c.args.start.fram c.args.start.pushers.items c.args.start.charges.items (is_setup c) c.requires.job c.requires.image c.requires.pushers c.requires.charges c.args.start.plan.layout
+      c.program.ensures.layout),
 )
 
 pub returns-clause-board : goal.returns-clause-board
 returns-clause-board c =
     (λ i. record { words = c.args.start.fram; kernel = c.boot.ensures.begun i; rows = map row_in c.args.start.pushers.items; charges = map charge_in c.args.start.charges.items; begun = 0 })
-    ∙ first_fields c.args.job c.args.start.fram c.args.start.pushers.items c.args.start.charges.items (is_setup c) c.requires.job c.requires.image c.requires.pushers c.requires.charges
+    ∙ first_fields (job_of c.args.start.plan.accepted c.args.start.readings c.args.start.listed) c.args.start.fram c.args.start.pushers.items c.args.start.charges.items (is_setup c) c.requires.job c.requires.image c.requires.pushers c.requires.charges
 
 pub returns-clause-code : goal.returns-clause-code
-returns-clause-code c = subst (λ (p : Program). HasCode p) (c.program.ensures.same ∙ c.requires.plan) c.read_code_back.ensures
+returns-clause-code c = subst (λ (p : Program). HasCode p) c.program.ensures.same c.read_code_back.ensures

@@ -1,8 +1,10 @@
-use Rattle.std.proofs.Common.{◌+◌, ◌<◌, ◌≤◌, length, sym, ap, ◌∙◌, subst, arith}
+use Rattle.std.proofs.Common.{◌+◌, ◌<◌, ◌≤◌, List, length, get_or, sym, ap, ◌∙◌, subst, arith}
 use Rattle.kernel_core.specs.Record.{begun}
 use Rattle.kernel_core.specs.Recorded.{Recorded}
 use Rattle.kernel_core.specs.Board.{cut}
-use Rattle.kernel_core.specs.Core.{View, setup_of}
+use Rattle.job_parts.specs.declared.charge.Charge.{Charge}
+use Rattle.job_parts.specs.Job.{item_turns}
+use Rattle.kernel_core.specs.Core.{View, setup_of, no_charge}
 use Rattle.kernel_core.proofs.CoreSteps.{clock_within}
 use Rattle.kernel_core.proofs.CoreCuts.{cut_fits, at_next, next_spare, board_of, core_of}
 use Rattle.kernel_core.proofs.board.Core.begin_charge.Goals as goal
@@ -23,7 +25,7 @@ invariant_of-self c = (
       c.perform-self-inside.ensures.after c.boot-self-inside.ensures.begun c.lose_rows.ensures
       (c.begin.ensures.charge ∙ ap (λ (z : Recorded). begun c.args.off z.charge) (at_next _ _ _ _ _ _ c.self.invariant.1 (subst (λ (z : View). z.board.begun < length z.job.charges) (sym c.self.view_is) c.requires) c.args.off (omega arith) c.index_mut.result.now c.index_mut.ensures.value))
       (subst (λ (z : Recorded). z.spare ≤ c.begin.new.self.spare + 1) (at_next _ _ _ _ _ _ c.self.invariant.1 (subst (λ (z : View). z.board.begun < length z.job.charges) (sym c.self.view_is) c.requires) c.args.off (omega arith) c.index_mut.result.now c.index_mut.ensures.value) c.begin.ensures.spare)
-      c.turns_in-self-inside.ensures.turns,
+      (c.turns_in-self-inside.ensures.turns ∙ ap (λ (l : List Charge). item_turns (get_or l c.self.inside.begun no_charge).items) c.as_slice.ensures),
 )
 
 pub returns-clause-board : goal.returns-clause-board

@@ -7,5 +7,5 @@ use Rattle.kernel_core.proofs.board.Core.into_record.Goals as goal
 pub returns-clause-stands : goal.returns-clause-stands
 returns-clause-stands c =
     subst (λ (z : RunRecord). RecordStands z)
-    (sym (λ i. record { job = c.self.inside.job; charges = c.finished.ensures i; words = (c.from_vec.ensures ∙ c.into_words.ensures) i }))
+    (sym (λ i. record { job = c.new.ensures i; charges = c.finished.ensures i; words = (c.from_vec.ensures ∙ c.into_words.ensures) i }))
     (record_stands _ _ _ _ _ _ c.self.invariant.1)

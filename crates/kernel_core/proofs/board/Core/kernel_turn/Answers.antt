@@ -1,9 +1,5 @@
 use Rattle.std.proofs.Common.{◌≡◌, ◌+◌, ◌<◌, ◌≤◌, sym, ap, ◌∙◌, subst}
-use Rattle.task_isa.specs.declared.program.Program.{Program}
-use Rattle.ink_layout.specs.Addresses.{at_layout}
 use Rattle.ink_layout.specs.Points.{entry_of_point}
-use Rattle.kernel_core.specs.Fits.{CanWant, CanTake}
-use Rattle.kernel_core.specs.Kernel.{wants, takes, point_found}
 use Rattle.kernel_core.specs.Record.{with_kernel}
 use Rattle.kernel_core.specs.Recorded.{Recorded}
 use Rattle.kernel_core.specs.Board.{kernel_turn}
@@ -14,18 +10,17 @@ use Rattle.kernel_core.proofs.board.Core.kernel_turn.Goals as goal
 
 pub want-access-requires : goal.want-access-requires
 want-access-requires c =
-    subst (λ (z : Program). CanWant z c.self.inside.kernel) (sym c.self.invariant.0.0)
-    (can_want _ _ _ _ _ _ c.self.invariant.1 (subst (λ (z : View). 0 < z.room) (sym c.self.view_is) c.requires.room))
+    can_want _ _ _ _ _ _ c.self.invariant.1 (subst (λ (z : View). 0 < z.room) (sym c.self.view_is) c.requires.room)
 
 pub perform-word-requires-clause-within : goal.perform-word-requires-clause-within
 perform-word-requires-clause-within c =
     within _ _ _ _ _ _ c.self.invariant.1 c.want-access.result (subst (λ (z : View). 0 < z.room) (sym c.self.view_is) c.requires.room)
-    (subst (λ (z : Program). c.want-access.result ≡ at_layout c.self.inside.plan.layout (wants z c.self.inside.kernel)) c.self.invariant.0.0 c.want-access.ensures.access)
+    c.want-access.ensures.access
 
 pub perform-word-requires-clause-fits : goal.perform-word-requires-clause-fits
 perform-word-requires-clause-fits c =
     adds_nothing _ _ _ _ _ _ c.self.invariant.1 c.want-access.result (subst (λ (z : View). 0 < z.room) (sym c.self.view_is) c.requires.room)
-    (subst (λ (z : Program). c.want-access.result ≡ at_layout c.self.inside.plan.layout (wants z c.self.inside.kernel)) c.self.invariant.0.0 c.want-access.ensures.access)
+    c.want-access.ensures.access
 
 pub note_kernel-requires-clause-spare : goal.note_kernel-requires-clause-spare
 note_kernel-requires-clause-spare c = has_spare _ _ _ _ _ _ c.self.invariant.1 (subst (λ (z : View). 0 < z.board.begun) (sym c.self.view_is) c.requires.begun) c.index_mut.result.now c.index_mut.ensures.value (subst (λ (z : View). 0 < z.room) (sym c.self.view_is) c.requires.room)
@@ -35,10 +30,9 @@ note_kernel-requires-clause-steps c = kernel_counts _ _ _ _ _ _ c.self.invariant
 
 pub take-point-requires : goal.take-point-requires
 take-point-requires c =
-    subst (λ (z : Program). CanTake z c.self.inside.kernel c.perform-word.result) (sym c.self.invariant.0.0)
-    (can_take _ _ _ _ _ _ c.self.invariant.1 c.want-access.result c.perform-word.result (subst (λ (z : View). 0 < z.room) (sym c.self.view_is) c.requires.room)
-    (subst (λ (z : Program). c.want-access.result ≡ at_layout c.self.inside.plan.layout (wants z c.self.inside.kernel)) c.self.invariant.0.0 c.want-access.ensures.access)
-    c.perform-word.ensures.answer)
+    can_take _ _ _ _ _ _ c.self.invariant.1 c.want-access.result c.perform-word.result (subst (λ (z : View). 0 < z.room) (sym c.self.view_is) c.requires.room)
+    c.want-access.ensures.access
+    c.perform-word.ensures.answer
 
 pub invariant_of-self : goal.invariant_of-self
 invariant_of-self c = (
@@ -46,11 +40,11 @@ invariant_of-self c = (
   kernel_turn_core _ _ _ _ _ _ c.self.invariant.1 c.want-access.result c.perform-word.result c.perform-word.new.self c.take-point.new.self c.entry_of_point-entry.result c.note_kernel.new.self
       (subst (λ (z : View). 0 < z.board.begun) (sym c.self.view_is) c.requires.begun)
       (subst (λ (z : View). 0 < z.room) (sym c.self.view_is) c.requires.room)
-      (subst (λ (z : Program). c.want-access.result ≡ at_layout c.self.inside.plan.layout (wants z c.self.inside.kernel)) c.self.invariant.0.0 c.want-access.ensures.access)
+      c.want-access.ensures.access
       c.perform-word.ensures.answer
       c.perform-word.ensures.after
-      (subst (λ (z : Program). c.take-point.new.self ≡ takes z c.self.inside.kernel c.perform-word.result) c.self.invariant.0.0 c.take-point.ensures.registers)
-      (c.entry_of_point-entry.ensures ∙ ap (λ z. entry_of_point z) (subst (λ (z : Program). c.take-point.result ≡ point_found z c.self.inside.kernel c.perform-word.result) c.self.invariant.0.0 c.take-point.ensures.point))
+      c.take-point.ensures.registers
+      (c.entry_of_point-entry.ensures ∙ ap (λ z. entry_of_point z) c.take-point.ensures.point)
       (c.note_kernel.ensures.charge ∙ ap (λ (z : Recorded). with_kernel c.entry_of_point-entry.result z.charge)
       (at_hand _ _ _ _ _ _ c.self.invariant.1 (subst (λ (z : View). 0 < z.board.begun) (sym c.self.view_is) c.requires.begun) c.index_mut.result.now c.index_mut.ensures.value))
       (subst (λ (z : Recorded). z.spare ≤ c.note_kernel.new.self.spare + 1)
@@ -61,12 +55,12 @@ pub returns-clause-board : goal.returns-clause-board
 returns-clause-board c =
     kernel_turn_is _ _ _ _ _ _ c.self.invariant.1 c.want-access.result c.perform-word.result
     (subst (λ (z : View). 0 < z.room) (sym c.self.view_is) c.requires.room)
-    (subst (λ (z : Program). c.want-access.result ≡ at_layout c.self.inside.plan.layout (wants z c.self.inside.kernel)) c.self.invariant.0.0 c.want-access.ensures.access)
+    c.want-access.ensures.access
     c.perform-word.ensures.answer
     c.perform-word.new.self c.take-point.new.self c.entry_of_point-entry.result c.note_kernel.new.self
     c.perform-word.ensures.after
-    (subst (λ (z : Program). c.take-point.new.self ≡ takes z c.self.inside.kernel c.perform-word.result) c.self.invariant.0.0 c.take-point.ensures.registers)
-    (c.entry_of_point-entry.ensures ∙ ap (λ z. entry_of_point z) (subst (λ (z : Program). c.take-point.result ≡ point_found z c.self.inside.kernel c.perform-word.result) c.self.invariant.0.0 c.take-point.ensures.point))
+    c.take-point.ensures.registers
+    (c.entry_of_point-entry.ensures ∙ ap (λ z. entry_of_point z) c.take-point.ensures.point)
     (c.note_kernel.ensures.charge ∙ ap (λ (z : Recorded). with_kernel c.entry_of_point-entry.result z.charge)
     (at_hand _ _ _ _ _ _ c.self.invariant.1 (subst (λ (z : View). 0 < z.board.begun) (sym c.self.view_is) c.requires.begun) c.index_mut.result.now c.index_mut.ensures.value))
     ∙ ap (λ (z : View). kernel_turn (setup_of z.job) z.board) c.self.view_is
@@ -75,8 +69,8 @@ pub returns-clause-made : goal.returns-clause-made
 returns-clause-made c =
     kernel_made_is _ _ _ _ _ _ c.self.invariant.1 c.want-access.result c.perform-word.result
     (subst (λ (z : View). 0 < z.room) (sym c.self.view_is) c.requires.room)
-    (subst (λ (z : Program). c.want-access.result ≡ at_layout c.self.inside.plan.layout (wants z c.self.inside.kernel)) c.self.invariant.0.0 c.want-access.ensures.access)
+    c.want-access.ensures.access
     c.perform-word.ensures.answer
     c.entry_of_point-entry.result
-    (c.entry_of_point-entry.ensures ∙ ap (λ z. entry_of_point z) (subst (λ (z : Program). c.take-point.result ≡ point_found z c.self.inside.kernel c.perform-word.result) c.self.invariant.0.0 c.take-point.ensures.point))
+    (c.entry_of_point-entry.ensures ∙ ap (λ z. entry_of_point z) c.take-point.ensures.point)
     ∙ ap (λ (z : View). kernel_made (setup_of z.job) z.board) c.self.view_is

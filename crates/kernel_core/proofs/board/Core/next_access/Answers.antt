@@ -1,4 +1,4 @@
-use Rattle.std.proofs.Common.{◌≡◌, ℕ, ◌<◌, List, length, sym, ap, ◌∙◌, subst}
+use Rattle.std.proofs.Common.{◌≡◌, ℕ, ◌<◌, List, length, sym, ap, ◌∙◌, subst, arith}
 use Rattle.push_core.specs.Table.{IsFew, IsRowFor, want_of}
 use Rattle.source_laws.specs.Rows.{port_of}
 use Rattle.never_cut.specs.Entries.{readings_of}
@@ -6,6 +6,12 @@ use Rattle.kernel_core.specs.Board.{sides, row_of}
 use Rattle.kernel_core.specs.Core.{View, setup_of}
 use Rattle.kernel_core.proofs.CoreSources.{few, fits, wanted_is}
 use Rattle.kernel_core.proofs.board.Core.next_access.Goals as goal
+
+pub readings_at-readings-requires : goal.readings_at-readings-requires
+readings_at-readings-requires c =
+    let known : c.args.source.0 < length c.self.inside.plan.accepted.sources = subst (λ (z : View). c.args.source.0 < length z.job.program.sources) (sym c.self.view_is) c.requires.known in
+    let same = c.self.invariant.0.0.sources in
+    omega arith
 
 pub want-requires-clause-few : goal.want-requires-clause-few
 want-requires-clause-few c = subst (λ (z : List ℕ). IsFew z) (sym c.readings_at-readings.ensures) (few _ _ _ _ _ _ c.self.invariant.1 c.args.source.0 (subst (λ (z : View). c.args.source.0 < length z.job.program.sources) (sym c.self.view_is) c.requires.known))

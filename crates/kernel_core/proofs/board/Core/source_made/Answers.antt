@@ -1,4 +1,4 @@
-use Rattle.std.proofs.Common.{◌≡◌, ℕ, ◌+◌, ◌<◌, ◌≤◌, List, length, sym, ap, ◌∙◌, subst}
+use Rattle.std.proofs.Common.{◌≡◌, ℕ, ◌+◌, ◌<◌, ◌≤◌, List, length, sym, ap, ◌∙◌, subst, arith}
 use Rattle.push_core.specs.Table.{IsFew, IsLeft, IsRowFor, IsAnswer, take_of}
 use Rattle.never_cut.specs.Entries.{readings_of}
 use Rattle.kernel_core.specs.Record.{with_source}
@@ -15,6 +15,12 @@ perform-word-requires-clause-within c = source_within _ _ _ _ _ _ c.self.invaria
 
 pub perform-word-requires-clause-fits : goal.perform-word-requires-clause-fits
 perform-word-requires-clause-fits c = source_adds_nothing _ _ _ _ _ _ c.self.invariant.1 c.args.source.0 (subst (λ (z : View). c.args.source.0 < length z.job.program.sources) (sym c.self.view_is) c.requires.known) c.args.access (subst (λ (z : View). c.args.access ≡ source_access (setup_of z.job) z.board c.args.source.0) (sym c.self.view_is) c.requires.access)
+
+pub readings_at-readings-requires : goal.readings_at-readings-requires
+readings_at-readings-requires c =
+    let known : c.args.source.0 < length c.self.inside.plan.accepted.sources = subst (λ (z : View). c.args.source.0 < length z.job.program.sources) (sym c.self.view_is) c.requires.known in
+    let same = c.self.invariant.0.0.sources in
+    omega arith
 
 pub take-point-requires-clause-few : goal.take-point-requires-clause-few
 take-point-requires-clause-few c = subst (λ (z : List ℕ). IsFew z) (sym c.readings_at-readings.ensures) (few _ _ _ _ _ _ c.self.invariant.1 c.args.source.0 (subst (λ (z : View). c.args.source.0 < length z.job.program.sources) (sym c.self.view_is) c.requires.known))
