@@ -1,5 +1,7 @@
 -- A board with one queue.
-use Rattle.std.proofs.Common.{◌≡◌, ℕ, zero, suc, ◌<◌, ◌≤◌, List, [], ◌∷◌, ◌++◌, map, length, length-append, get_or, take, drop, slice_index, refl, sym, ap, ◌∙◌, subst, arith}
+use Rattle.std.proofs.Common.{◌≡◌, ℕ, zero, suc, ◌+◌, ◌<◌, ◌≤◌, List, [], ◌∷◌, ◌++◌, map, length, length-append, get_or, take, drop, slice_index, refl, sym, ap, ◌∙◌, subst, arith}
+use mathlib.Core.Option.{some}
+use lib.ListN.{get_elem?}
 use Rattle.std.proofs.lemmas.List.{length-map, map-append}
 use Rattle.std.specs.Prelude.{All}
 use Rattle.ink_base.specs.declared.ids.ThreadId.{ThreadId}
@@ -12,7 +14,8 @@ use Rattle.event_queue.specs.Calls.{released_of}
 use Rattle.event_queue.specs.Views.{places_of, queue_of, lay_of}
 use Rattle.event_queue.specs.Rule.{IsLay}
 use Rattle.event_queue.specs.Seats.{view, kernel_view, ring_of, IsOfShape, AreNewSources, IsNewKernel}
-use Rattle.event_queue.proofs.Basics.{at_get}
+use Rattle.event_queue.proofs.Basics.{at_get, same_element}
+use Rattle.atomic_table.proofs.Lists.{at_last}
 use Rattle.queue_rows.specs.Rounds.{firsts, IsOneQueue, IsNew, IsAt}
 
 zeros : (n i : ℕ) → slice_index (map (λ (x : ThreadId). x.0) (firsts n)) i ≡ 0
@@ -57,7 +60,7 @@ pub opened_sources : (set : QueueSet) (shape : Shape) (places n : ℕ) (seats : 
 opened_sources set shape places n seats same one new k d lt =
     let s : SourceSeat = get_or seats k d in
     let h = new k s (at_get seats k d lt) in
-    (h.of, ring_is one s (h.of.1 ∙ ap lay_of same), h.calls)
+    (h.of, ring_is one s (h.of.1 ∙ ap lay_of same), h.calls, ap (λ (z : Lay). queue_of z s.source.0) (h.of.1 ∙ ap lay_of same) ∙ one.same s.source.0)
 
 pub opened_kernel : (set : QueueSet) (shape : Shape) (places n : ℕ) (k : KernelSeat) → IsOfShape set shape → IsOneQueue (lay_of shape) places n → IsNewKernel set k → IsAt set 0 k
 opened_kernel set shape places n k same one h =
@@ -73,3 +76,11 @@ written_back n (x ∷ xs) (y ∷ ys) e same = ap (λ (k : ℕ). take k (x ∷ (x
 
 pub all_back : {A : Type 0} (P : A → Type 0) (n : ℕ) (new old : List A) → n ≡ length new → length new ≡ length old → All P new → All P (take n (new ++ drop (length new) old))
 all_back P n new old e same all = subst (All P) (sym (written_back n new old e same)) all
+
+-- the last of the seats
+pub new_last : (set : QueueSet) (places : ℕ) (seats rest : List SourceSeat) (s : SourceSeat) → All (IsNew set places) seats → seats ≡ rest ++ s ∷ [] → IsNew set places s
+new_last set places seats rest s all is =
+    let longer : length seats ≡ length rest + 1 = ap length is ∙ length-append rest (s ∷ []) in
+    let here : get_elem? seats (length rest) ≡ some s = ap (λ (xs : List SourceSeat). get_elem? xs (length rest)) is ∙ at_last rest s (length rest) refl in
+    let lt : length rest < length seats = omega (arith, longer) in
+    subst (IsNew set places) (same_element seats (length rest) _ s (at_get seats (length rest) s lt) here) (all (length rest) s lt)

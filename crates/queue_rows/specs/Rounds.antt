@@ -20,9 +20,9 @@ pub record IsOneQueue (lay : Lay) (places sources : ℕ) : Type 0 where
   pub number : length lay.sources ≡ sources
   pub same : (i : ℕ) → queue_of lay i ≡ 0
 
--- a source's seat on a queue with so many places, which has made no call
+-- a source's seat on the first queue, which has so many places; it has made no call
 abbrev pub IsNew : QueueSet → ℕ → SourceSeat → Type 0
-IsNew set places s = IsSeatOf set s × (ring_of s ≡ places) × (calls_of (view s) ≡ [])
+IsNew set places s = IsSeatOf set s × (ring_of s ≡ places) × (calls_of (view s) ≡ []) × (queue_of (view s).lay s.source.0 ≡ 0)
 
 -- the kernel's seat, which has released so many events of the first queue
 abbrev pub IsAt : QueueSet → ℕ → KernelSeat → Type 0

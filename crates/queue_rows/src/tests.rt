@@ -1,11 +1,13 @@
 //! Runs of the shared queues.
 
+mod carrying;
 mod kinds;
 mod opening;
 mod rounds;
 mod served;
 mod threads;
 
+use carrying::taken_and_told;
 use ink_base::NoMemory;
 use kinds::words_after;
 use opening::open;
@@ -88,5 +90,21 @@ fn finish_gives_the_words_after_each_kind_of_step(rt: HostRuntime) -> Result<(),
         let got = words_after(&rt, rt.alloc(), source, kernel, ticks)?;
         assert!(rt; got.as_slice() == words.as_slice());
     }
+    Ok(())
+}
+
+/// A source and the kernel that tell each other what they know. Answers the value that the kernel took before.
+#[tactic(auto, using(crate::proofs::Queues::new_last))]
+fn told_by_notes(alloc: Global) -> Result<Option<u32>, NoMemory> {
+    let (set, mut kernel, mut seats, _clock) = open(alloc, 4, 1)?;
+    let Some(mut seat) = seats.pop() else {
+        return Ok(None);
+    };
+    Ok(taken_and_told(&set, &mut kernel, &mut seat))
+}
+
+#[test]
+fn a_count_goes_from_the_kernel_to_a_source_and_back(rt: HostRuntime) -> Result<(), Fail> {
+    assert_eq!(rt; told_by_notes(rt.alloc())?, Some(7));
     Ok(())
 }

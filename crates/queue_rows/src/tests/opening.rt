@@ -30,7 +30,7 @@ fn one_queue(alloc: Global, queue: u8, number: usize) -> Result<Shape, NoMemory>
 }
 
 /// A set with one queue and its seats.
-#[tactic(auto, using(crate::proofs::Queues::one_limits, crate::proofs::Queues::opened_kernel, crate::proofs::Queues::opened_sources))]
+#[tactic(auto, using(crate::proofs::Queues::one_limits, crate::proofs::Queues::opened_kernel))]
 pub fn open(
     alloc: Global,
     places: u8,
