@@ -93,7 +93,9 @@ fn an_item_is_taken_from_its_pipe(rt: HostRuntime) -> Result<(), Fail> {
         item: 0,
     };
     // The origin, the finished and served events, the items taken.
-    let served = serve(rt.alloc(), SENDING, pick(1, origin, 7), 0, [3, 5, 6, 18]).ok_or("not served")?;
+    let served = serve(rt.alloc(), SENDING, pick(1, origin, 7), 0, [3, 5, 6, 18]).ok_or(
+        "not served",
+    )?;
     assert_eq!(rt; served.numbers, (63, 0));
     assert_eq!(rt; served.headers, [2 << 56, 0, 1, 1]);
     assert_eq!(rt; served.outputs, [(1 << 32) + 7, 0]);
