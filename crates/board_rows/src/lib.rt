@@ -9,20 +9,12 @@ mod fixtures;
 #[cfg(test)]
 mod ink_layout_rows;
 #[cfg(test)]
-mod kernel_core_rows;
-#[cfg(test)]
 mod never_cut_rows;
 #[cfg(test)]
 mod persist_timer_rows;
 #[cfg(test)]
-mod priority_sched_rows;
-#[cfg(test)]
 mod push_core_rows;
 #[cfg(test)]
 mod reboot_rows;
-#[cfg(test)]
-mod task_board;
-#[cfg(test)]
-mod task_run_rows;
 #[cfg(test)]
 mod thread_state_rows;
