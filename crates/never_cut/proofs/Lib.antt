@@ -43,3 +43,4 @@ pub mod Turns
 pub mod Served
 pub mod Replays
 pub mod FirstImages
+pub mod Costs

@@ -16,3 +16,6 @@ pub mod Laws
 pub mod Start
 pub mod Ranges
 pub mod Wanted
+pub mod Reached
+pub mod Cost
+pub mod Bounds
