@@ -3,9 +3,10 @@ use Rattle.std.proofs.Common.{◌≡◌, inl, inr, ℕ, zero, suc, ◌+◌, ◌%
 use Rattle.std.proofs.lemmas.List.{get_or_append_left}
 use Rattle.push_core.specs.declared.stage.Stage.{Stage}
 use Rattle.push_core.specs.declared.stage.Stage.TheVariants.{LoadSrc, LoadSlots, LoadAck, LoadTail, LoadSlot, Publish, MoveTail, HelpTail, StoreSkip, StoreAccepted}
-use Rattle.source_laws.specs.QueueEvent.{QueueEvent}
-use Rattle.source_laws.specs.Model.{Queue, Near, published, with_event, without_first, with_finished}
-use Rattle.source_laws.specs.Stands.{StandsSource, IsFinishing, event_at, no_event}
+use Rattle.ink_base.specs.declared.event.Event.{Event}
+use Rattle.push_core.specs.Queue.{Queue, published, event_at, no_event, event_source, event_count, IsNumber, IsFinishing, KeepsNumbers, with_event, without_first, with_finished}
+use Rattle.push_core.proofs.Events.{number_source, number_count}
+use Rattle.source_laws.specs.Model.{Near}
 use Rattle.source_laws.specs.Knows.{KnowsAt, Boots, IsShown}
 use Rattle.source_laws.proofs.Numbers.{numbered_range, numbered_at, numbered_release_own}
 
@@ -18,11 +19,11 @@ pub record Drifts (i places : ℕ) (n : Near) (tail ack : ℕ) (q : Queue) : Typ
   pub tail_up : n.tail ≤ tail
   pub released_up : n.queue.released ≤ q.released
   pub published_up : published n.queue ≤ published q
-  pub shown : (a slot : ℕ) → n.source.accepted ≡ suc a → IsShown i places n a slot → IsShown i places (changed n tail ack q) a slot
+  pub shown : (a slot : ℕ) → n.source.accepted ≡ a + 1 → IsShown i places n a slot → IsShown i places (changed n tail ack q) a slot
 
 -- where the first event is the source's, ACK counts it
 abbrev pub IsAcked : ℕ → Near → Type 0
-IsAcked i n = (event_at n.queue.held 0).source ≡ i → n.ack ≡ suc (event_at n.queue.held 0).count % 64
+IsAcked i n = event_source (event_at n.queue.held 0) ≡ i → n.ack ≡ (event_count (event_at n.queue.held 0) + 1) % 64
 
 module _ {i places : ℕ} {n : Near} {tail ack : ℕ} {q : Queue} (d : Drifts i places n tail ack q) where
   boots_drift : (a k slot : ℕ) (seen : Bool) → Boots i places n a k slot seen → Boots i places (changed n tail ack q) a k slot seen
@@ -51,7 +52,7 @@ module _ (i places : ℕ) (n : Near) where
   drift_tail tail up = record { tail_up = up; released_up = omega arith; published_up = omega arith; shown = λ a slot one h. h }
 
   -- an event is published
-  pub drift_push : (e : QueueEvent) → Drifts i places n n.tail n.ack (with_event n.queue e)
+  pub drift_push : (e : Event) → Drifts i places n n.tail n.ack (with_event n.queue e)
   drift_push e = record {
     tail_up = omega arith;
     released_up = omega arith;
@@ -59,7 +60,7 @@ module _ (i places : ℕ) (n : Near) where
     shown = λ a slot one h. elim h [
       | inl x ↦
           let same = get_or_append_left n.queue.held (e ∷ []) no_event x.0 x.1 in
-          inl (x.0, omega (arith, x.1, length-append n.queue.held (e ∷ [])), ap (λ (y : QueueEvent). y.source) same ∙ x.2, ap (λ (y : QueueEvent). y.count) same ∙ x.3, x.4)
+          inl (x.0, omega (arith, x.1, length-append n.queue.held (e ∷ [])), ap (λ (y : Event). y.origin) same ∙ x.2, x.3)
       | inr y ↦ inr y
     ];
   }
@@ -69,12 +70,12 @@ module _ (i places : ℕ) (n : Near) where
   drift_finish = record { tail_up = omega arith; released_up = omega arith; published_up = omega arith; shown = λ a slot one h. h }
 
   -- the source's finished event is acknowledged
-  pub drift_ack : (ack : ℕ) → IsFinishing i n.queue → length n.queue.held ≤ 32 → ack ≡ suc (event_at n.queue.held 0).count % 64 → StandsSource i n → Drifts i places n n.tail ack n.queue
+  pub drift_ack : (ack : ℕ) → IsFinishing i n.queue → length n.queue.held ≤ 32 → ack ≡ (event_count (event_at n.queue.held 0) + 1) % 64 → KeepsNumbers i n.src n.ack n.queue n.source → Drifts i places n n.tail ack n.queue
   drift_ack ack f room is h =
       let c = numbered_release_own i n.queue.held h.gone n.source.accepted f.some f.own h.numbered in
       let r = numbered_range i n.queue.held h.gone n.source.accepted h.numbered in
       let t = numbered_at i n.queue.held h.gone n.source.accepted 0 h.numbered f.some f.own in
-      let last : (a : ℕ) → n.source.accepted ≡ suc a → n.ack ≡ suc a % 64 → ack ≡ suc a % 64 = λ a one old.
+      let last : (a : ℕ) → n.source.accepted ≡ a + 1 → n.ack ≡ (a + 1) % 64 → ack ≡ (a + 1) % 64 = λ a one old.
       elim h.ack_is [
         | inl e ↦ absurd (omega (arith, e, old, one, r.0, r.1, t.1, t.2))
         | inr p ↦ omega (arith, p.1, old, c.0, is)
@@ -82,17 +83,18 @@ module _ (i places : ℕ) (n : Near) where
       record { tail_up = omega arith; released_up = omega arith; published_up = omega arith; shown = λ a slot one x. elim x [ inl y ↦ inl y | inr old ↦ inr (last a one old) ] }
 
   -- the first event is released
-  ahead_release : (a slot j : ℕ) → 0 < length n.queue.held → IsAcked i n → j < length n.queue.held → (event_at n.queue.held j).source ≡ i → (event_at n.queue.held j).count ≡ a % 64
+  ahead_release : (a slot j : ℕ) → 0 < length n.queue.held → IsAcked i n → j < length n.queue.held → IsNumber i a (event_at n.queue.held j)
       → slot ≤ (n.queue.released + j) % places → IsShown i places (record n { queue = without_first n.queue }) a slot
-  ahead_release a slot zero some acked lt own count before = inr (let e = acked own in omega (arith, e, count))
-  ahead_release a slot (suc j) some acked lt own count before =
+  ahead_release a slot zero some acked lt is before =
+      let e = acked (number_source i a (event_at n.queue.held 0) is) in
+      inr (omega (arith, e, number_count i a (event_at n.queue.held 0) is))
+  ahead_release a slot (suc j) some acked lt is before =
       let same : event_at (drop 1 n.queue.held) j ≡ event_at n.queue.held (suc j) = get_or-drop 1 n.queue.held j no_event ∙ ap (event_at n.queue.held) (one-add j) in
       inl (
         j,
         omega (arith, lt, length-drop 1 n.queue.held),
-        ap (λ (y : QueueEvent). y.source) same ∙ own,
-        ap (λ (y : QueueEvent). y.count) same ∙ count,
-        subst (λ (x : ℕ). slot ≤ x % places) (let e : n.queue.released + suc j ≡ suc n.queue.released + j = omega arith in e) before,
+        ap (λ (y : Event). y.origin) same ∙ is,
+        subst (λ (x : ℕ). slot ≤ x % places) (let e : n.queue.released + suc j ≡ n.queue.released + 1 + j = omega arith in e) before,
       )
 
   pub drift_release : 0 < length n.queue.held → IsAcked i n → Drifts i places n n.tail n.ack (without_first n.queue)
@@ -100,5 +102,5 @@ module _ (i places : ℕ) (n : Near) where
     tail_up = omega arith;
     released_up = omega arith;
     published_up = omega (arith, some, length-drop 1 n.queue.held);
-    shown = λ a slot one h. elim h [ inl x ↦ ahead_release a slot x.0 some acked x.1 x.2 x.3 x.4 | inr y ↦ inr y ];
+    shown = λ a slot one h. elim h [ inl x ↦ ahead_release a slot x.0 some acked x.1 x.2 x.3 | inr y ↦ inr y ];
   }

@@ -3,7 +3,8 @@ use Rattle.std.proofs.Common.{inl, inr, ℕ, ◌/◌, ◌%◌, ◌^◌, ◌<◌,
 use Rattle.push_core.specs.Table.{greatest_tail, IsPort, FitsStage, IsRowFor, IsAnswer, row_at}
 use Rattle.push_core.specs.declared.stage.Stage.{Stage}
 use Rattle.push_core.specs.declared.stage.Stage.TheVariants.{LoadSrc, LoadSlots, LoadAck, LoadTail, LoadSlot, Publish, MoveTail, HelpTail, StoreSkip, StoreAccepted}
-use Rattle.source_laws.specs.Model.{Board, Near, published}
+use Rattle.push_core.specs.Queue.{published}
+use Rattle.source_laws.specs.Model.{Board, Near}
 use Rattle.source_laws.specs.Rows.{port_of, found}
 use Rattle.source_laws.specs.Knows.{KnowsAt, Boots}
 use Rattle.source_laws.specs.Kept.{State, Kept, IsWithin}

@@ -4,15 +4,16 @@ use Rattle.std.proofs.lemmas.Bool.{cases_eq}
 use Rattle.fram_words.specs.Changes.{Becomes}
 use Rattle.fram_words.specs.Places.{Tail, Ack, Src}
 use Rattle.fram_words.specs.Places as places
-use Rattle.source_laws.specs.Model.{places_for, Board, Queue, Source, published, SourceBecomes}
-use Rattle.source_laws.specs.Stands.{Stored, event_at}
+use Rattle.push_core.specs.Queue.{Queue, Source, published, event_at, IsQueued, Stored}
+use Rattle.push_core.proofs.Queues.{queue_same}
+use Rattle.push_core.proofs.Unsettled.{unsettled_least}
+use Rattle.source_laws.specs.Model.{places_for, Board, SourceBecomes}
 use Rattle.push_core.specs.declared.row.Row.{Row}
 use Rattle.source_laws.specs.Knows.{Knows}
-use Rattle.source_laws.specs.Kept.{State, Kept, near, QueueKept, SourcePart, slots_of, EventsKept, IsEvent, IsOrdered, IsWithin}
-use Rattle.source_laws.proofs.Queues.{queue_same}
+use Rattle.source_laws.specs.Kept.{State, Kept, near, QueueKept, SourcePart, slots_of, EventsKept, IsOrdered, IsWithin}
 use Rattle.source_laws.proofs.Sources.{source_store}
 use Rattle.source_laws.proofs.Nears.{near_is, source_as}
-use Rattle.source_laws.proofs.Counts.{unsettled_least, positions_fit, event_fits}
+use Rattle.source_laws.proofs.Counts.{positions_fit, event_fits}
 use Rattle.source_laws.proofs.Own.{Own}
 
 module _ (board : Board) (x y : State) where
@@ -21,8 +22,8 @@ module _ (board : Board) (x y : State) where
 
   pub events_part : (t : ℕ) → y.model.queue t ≡ x.model.queue t → ((j : ℕ) → (x.model.source j).next ≤ (y.model.source j).next) → EventsKept board x.model.queue x.model.source t → EventsKept board y.model.queue y.model.source t
   events_part t queue more h = record {
-    events = subst (λ (q : Queue). (k : ℕ) → k < length q.held → IsEvent board t (event_at q.held k)) (sym queue) h.events;
-    positions = omega (arith, h.positions, ap published queue, unsettled_least board x.model.source y.model.source t board.shape.sources more);
+    events = subst (λ (q : Queue). (k : ℕ) → k < length q.held → IsQueued board.shape.sources board.queue_of t (event_at q.held k)) (sym queue) h.events;
+    positions = omega (arith, h.positions, ap published queue, unsettled_least board.queue_of board.readings x.model.source y.model.source t board.shape.sources more);
   }
 
 -- what is known of one source
@@ -38,6 +39,7 @@ own_of board x i w lt h =
       some = w.places i lt;
       small = w.no_more (board.queue_of i);
       few = w.readings i;
+      known = omega (arith, w.sources);
     }
 
 -- a step of source i that leaves its queue, and what it has accepted, alone

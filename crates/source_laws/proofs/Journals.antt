@@ -3,19 +3,20 @@ use Rattle.std.proofs.Common.{◌≡◌, ◌⊎◌, inl, inr, ℕ, suc, ◌+◌,
 use Rattle.std.specs.List.{range_with_len}
 use Rattle.std.proofs.lemmas.Bool.{cases_eq, eq-eqb, ne_eqb}
 use Rattle.fram_words.specs.Changes.{Becomes}
-use Rattle.source_laws.specs.Model.{Board, Model, Source, Entry, Push, Refuse, Skip, Finish, Release, Follows}
+use Rattle.push_core.specs.Queue.{Source}
+use Rattle.source_laws.specs.Model.{Board, Model, Entry, Push, Refuse, Skip, Finish, Release, Follows}
 use Rattle.source_laws.specs.Journals.{Leads, settled, settled_by}
 
 -- an entry settles the next reading of source i, or none of it
 Settles : ℕ → Entry → Model → Model → Type 0
-Settles i e old new = ((settled_by i e old ≡ []) × ((new.source i).next ≡ (old.source i).next)) ⊎ ((settled_by i e old ≡ (old.source i).next ∷ []) × ((new.source i).next ≡ suc (old.source i).next))
+Settles i e old new = ((settled_by i e old ≡ []) × ((new.source i).next ≡ (old.source i).next)) ⊎ ((settled_by i e old ≡ (old.source i).next ∷ []) × ((new.source i).next ≡ (old.source i).next + 1))
 
 -- source j becomes one that has settled one more
-settles_one : (i j : ℕ) (s : Source) (old new : ℕ → Source) → Becomes j s old new → s.next ≡ suc (old j).next
-    → ((cond (j == i) ((old i).next ∷ []) [] ≡ []) × ((new i).next ≡ (old i).next)) ⊎ ((cond (j == i) ((old i).next ∷ []) [] ≡ (old i).next ∷ []) × ((new i).next ≡ suc (old i).next))
+settles_one : (i j : ℕ) (s : Source) (old new : ℕ → Source) → Becomes j s old new → s.next ≡ (old j).next + 1
+    → ((cond (j == i) ((old i).next ∷ []) [] ≡ []) × ((new i).next ≡ (old i).next)) ⊎ ((cond (j == i) ((old i).next ∷ []) [] ≡ (old i).next ∷ []) × ((new i).next ≡ (old i).next + 1))
 settles_one i j s old new becomes more =
     elim (cases_eq j i) [
-      | inl same ↦ inr (ap (λ (b : Bool). cond b ((old i).next ∷ []) []) (eq-eqb j i same), subst (λ (k : ℕ). (new k).next ≡ suc (old k).next) same (ap (λ (z : Source). z.next) becomes.here ∙ more))
+      | inl same ↦ inr (ap (λ (b : Bool). cond b ((old i).next ∷ []) []) (eq-eqb j i same), subst (λ (k : ℕ). (new k).next ≡ (old k).next + 1) same (ap (λ (z : Source). z.next) becomes.here ∙ more))
       | inr other ↦ inl (ap (λ (b : Bool). cond b ((old i).next ∷ []) []) (ne_eqb j i other), ap (λ (z : Source). z.next) (becomes.elsewhere i (λ e. other (sym e))))
     ]
 

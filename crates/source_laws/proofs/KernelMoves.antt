@@ -4,23 +4,24 @@ use Rattle.std.proofs.lemmas.Bool.{cases_eq}
 use Rattle.push_core.specs.Table.{first_row, greatest_tail}
 use Rattle.push_core.specs.declared.row.Row.{Row}
 use Rattle.fram_words.specs.Changes.{Becomes}
-use Rattle.source_laws.specs.Slots.{empty}
+use Rattle.push_core.specs.Slots.{empty_word}
+use Rattle.push_core.specs.Queue.{Queue, Source, published, event_at, no_event, event_source, event_count, IsQueued, unsettled_into, IsFinishing, without_first, with_finished}
+use Rattle.push_core.proofs.Events.{queued_numbers}
+use Rattle.push_core.proofs.Queues.{queue_same, queue_finish, queue_release}
+use Rattle.push_core.proofs.Unsettled.{unsettled_least}
 use Rattle.fram_words.specs.Places.{Place, Tail, Ack, Src, IsShared}
 use Rattle.fram_words.specs.Places as places
-use Rattle.source_laws.specs.Model.{places_for, Board, Queue, Source, Model, places_of, published, QueueBecomes, without_first, with_finished}
-use Rattle.source_laws.specs.Stands.{IsFinishing, event_at, no_event}
-use Rattle.source_laws.specs.Kept.{State, Kept, near, QueueKept, SourceKept, EventsKept, IsEvent, IsWithin, unsettled_into}
-use Rattle.source_laws.proofs.Queues.{queue_same, queue_finish, queue_release}
-use Rattle.source_laws.proofs.Counts.{unsettled_least}
+use Rattle.source_laws.specs.Model.{places_for, Board, Model, QueueBecomes}
+use Rattle.source_laws.specs.Kept.{State, Kept, near, QueueKept, SourceKept, EventsKept, IsWithin}
 use Rattle.source_laws.proofs.Nears.{near_is, source_as, other_finish, own_acked, any_release}
 use Rattle.source_laws.proofs.Frames.{queue_part, events_part, slots_become}
 
 -- the events of one queue, which has published no more, where no source has settled fewer
-events_as : (board : Board) (old new : ℕ → Source) (queue : ℕ → Queue) (t n : ℕ) (q : Queue) → queue t ≡ q → published q ≡ n → n + unsettled_into board old t board.shape.sources ≤ greatest_tail
-    → ((j : ℕ) → new j ≡ old j) → ((k : ℕ) → k < length q.held → IsEvent board t (event_at q.held k)) → EventsKept board queue new t
+events_as : (board : Board) (old new : ℕ → Source) (queue : ℕ → Queue) (t n : ℕ) (q : Queue) → queue t ≡ q → published q ≡ n → n + unsettled_into board.queue_of board.readings old t board.shape.sources ≤ greatest_tail
+    → ((j : ℕ) → new j ≡ old j) → ((k : ℕ) → k < length q.held → IsQueued board.shape.sources board.queue_of t (event_at q.held k)) → EventsKept board queue new t
 events_as board old new queue t n q is number fits same events = record {
-  events = subst (λ (z : Queue). (k : ℕ) → k < length z.held → IsEvent board t (event_at z.held k)) (sym is) events;
-  positions = omega (arith, ap published is, number, fits, unsettled_least board old new t board.shape.sources (λ j. omega (arith, ap (λ (z : Source). z.next) (same j))));
+  events = subst (λ (z : Queue). (k : ℕ) → k < length z.held → IsQueued board.shape.sources board.queue_of t (event_at z.held k)) (sym is) events;
+  positions = omega (arith, ap published is, number, fits, unsettled_least board.queue_of board.readings old new t board.shape.sources (λ j. omega (arith, ap (λ (z : Source). z.next) (same j))));
 }
 
 -- the first event of queue t is finished, by a commit
@@ -53,16 +54,16 @@ kept_finish board x y t0 word model rows h = record {
 
 -- the kernel acknowledges the finished event of queue t0
 pub kept_ack : (board : Board) (x y : State) (t0 : ℕ) → IsWithin board → (x.model.queue t0).finished ≡ true → 0 < length (x.model.queue t0).held
-    → Becomes (Ack (event_at (x.model.queue t0).held 0).source) (suc (event_at (x.model.queue t0).held 0).count % 64) x.word y.word → y.model ≡ x.model → y.row ≡ x.row → Kept board x → Kept board y
+    → Becomes (Ack (event_source (event_at (x.model.queue t0).held 0))) ((event_count (event_at (x.model.queue t0).held 0) + 1) % 64) x.word y.word → y.model ≡ x.model → y.row ≡ x.row → Kept board x → Kept board y
 kept_ack board x y t0 w finished some word model rows h = record {
   queues = λ t. queue_part board x y t (λ n. word.elsewhere (places.Slot t n) (λ e. cc)) (tail t) (queue t) (h.queues t);
   events = λ t. events_part board x y t (queue t) (λ j. omega (arith, ap (λ (z : Source). z.next) (source j))) (h.events t);
-  sources = λ j. elim (cases_eq j (event_at (x.model.queue t0).held 0).source) [
+  sources = λ j. elim (cases_eq j (event_source (event_at (x.model.queue t0).held 0))) [
     | inl same ↦
         source_as (own_acked (h.sources j) (y.word (Ack j)) (own j same) (omega (arith, (h.queues (board.queue_of j)).room, w.no_more (board.queue_of j))) (acked j same))
         (near_is board y j (tail (board.queue_of j)) (src j) refl (queue (board.queue_of j)) (source j)) (row j)
     | inr other ↦
-        source_as (h.sources j) (near_is board y j (tail (board.queue_of j)) (src j) (word.elsewhere (Ack j) (λ e. other (let same : j ≡ (event_at (x.model.queue t0).held 0).source = cc in same))) (queue (board.queue_of j)) (source j)) (row j)
+        source_as (h.sources j) (near_is board y j (tail (board.queue_of j)) (src j) (word.elsewhere (Ack j) (λ e. other (let same : j ≡ event_source (event_at (x.model.queue t0).held 0) = cc in same))) (queue (board.queue_of j)) (source j)) (row j)
   ];
 }
   where
@@ -81,19 +82,19 @@ kept_ack board x y t0 w finished some word model rows h = record {
     src : (j : ℕ) → y.word (Src j) ≡ x.word (Src j)
     src j = word.elsewhere (Src j) (λ f. cc)
 
-    at_queue : (j : ℕ) → j ≡ (event_at (x.model.queue t0).held 0).source → board.queue_of j ≡ t0
-    at_queue j same = ap board.queue_of same ∙ ((h.events t0).events 0 some).queue
+    at_queue : (j : ℕ) → j ≡ event_source (event_at (x.model.queue t0).held 0) → board.queue_of j ≡ t0
+    at_queue j same = ap board.queue_of same ∙ (queued_numbers board.shape.sources board.queue_of t0 (event_at (x.model.queue t0).held 0) ((h.events t0).events 0 some)).queue
 
-    own : (j : ℕ) → j ≡ (event_at (x.model.queue t0).held 0).source → IsFinishing j (x.model.queue (board.queue_of j))
+    own : (j : ℕ) → j ≡ event_source (event_at (x.model.queue t0).held 0) → IsFinishing j (x.model.queue (board.queue_of j))
     own j same = subst (λ (t : ℕ). IsFinishing j (x.model.queue t)) (sym (at_queue j same)) (record { finished = finished; some = some; own = sym same })
 
-    acked : (j : ℕ) → j ≡ (event_at (x.model.queue t0).held 0).source → y.word (Ack j) ≡ suc (event_at (x.model.queue (board.queue_of j)).held 0).count % 64
-    acked j same = ap (λ (k : ℕ). y.word (Ack k)) same ∙ word.here ∙ ap (λ (t : ℕ). suc (event_at (x.model.queue t).held 0).count % 64) (sym (at_queue j same))
+    acked : (j : ℕ) → j ≡ event_source (event_at (x.model.queue t0).held 0) → y.word (Ack j) ≡ (event_count (event_at (x.model.queue (board.queue_of j)).held 0) + 1) % 64
+    acked j same = ap (λ (k : ℕ). y.word (Ack k)) same ∙ word.here ∙ ap (λ (t : ℕ). (event_count (event_at (x.model.queue t).held 0) + 1) % 64) (sym (at_queue j same))
 
 -- the kernel releases it, once it is acknowledged
 pub kept_release : (board : Board) (x y : State) (t0 : ℕ) → (x.model.queue t0).finished ≡ true → 0 < length (x.model.queue t0).held
-    → x.word (Ack (event_at (x.model.queue t0).held 0).source) ≡ suc (event_at (x.model.queue t0).held 0).count % 64
-    → Becomes (places.Slot t0 ((x.model.queue t0).released % places_of board t0)) (empty ((x.model.queue t0).released + places_of board t0)) x.word y.word
+    → x.word (Ack (event_source (event_at (x.model.queue t0).held 0))) ≡ (event_count (event_at (x.model.queue t0).held 0) + 1) % 64
+    → Becomes (places.Slot t0 ((x.model.queue t0).released % board.places t0)) (empty_word ((x.model.queue t0).released + board.places t0)) x.word y.word
     → QueueBecomes t0 (without_first (x.model.queue t0)) x.model y.model → y.row ≡ x.row → Kept board x → Kept board y
 kept_release board x y t0 finished some acked word model rows h = record {
   queues = λ t. elim (cases_eq t t0) [
@@ -104,8 +105,8 @@ kept_release board x y t0 finished some acked word model rows h = record {
   events = λ t. elim (cases_eq t t0) [
     | inl same ↦ subst (EventsKept board y.model.queue y.model.source) (sym same)
         (events_as board x.model.source y.model.source y.model.queue t0 (published q) (without_first q) model.queue.here
-        (let n : suc q.released + length (drop 1 q.held) ≡ published q = omega (arith, length-drop 1 q.held) in n) (h.events t0).positions source
-        (λ k lt. subst (IsEvent board t0) (sym (get_or-drop 1 q.held k no_event ∙ ap (event_at q.held) (one-add k))) ((h.events t0).events (suc k) (omega (arith, lt, length-drop 1 q.held)))))
+        (let n : q.released + 1 + length (drop 1 q.held) ≡ published q = omega (arith, length-drop 1 q.held) in n) (h.events t0).positions source
+        (λ k lt. subst (IsQueued board.shape.sources board.queue_of t0) (sym (get_or-drop 1 q.held k no_event ∙ ap (event_at q.held) (one-add k))) ((h.events t0).events (suc k) (omega (arith, lt, length-drop 1 q.held)))))
     | inr other ↦ events_part board x y t (model.queue.elsewhere t other) (λ j. omega (arith, ap (λ (z : Source). z.next) (source j))) (h.events t)
   ];
   sources = λ j. elim (cases_eq (board.queue_of j) t0) [
@@ -137,7 +138,7 @@ kept_release board x y t0 finished some acked word model rows h = record {
 
     release_here : (j : ℕ) → board.queue_of j ≡ t0 → SourceKept j (places_for board j) (length (board.readings j)) (record (near board x j) { queue = without_first (x.model.queue (board.queue_of j)) }) (x.row j)
     release_here j here =
-        let can = subst (λ (p : Queue). (p.finished ≡ true) × (0 < length p.held) × ((event_at p.held 0).source ≡ j → x.word (Ack j) ≡ suc (event_at p.held 0).count % 64)) (sym (ap x.model.queue here)) (finished, some, λ same. ap (λ (k : ℕ). x.word (Ack k)) (sym same) ∙ acked) in
+        let can = subst (λ (p : Queue). (p.finished ≡ true) × (0 < length p.held) × (event_source (event_at p.held 0) ≡ j → x.word (Ack j) ≡ (event_count (event_at p.held 0) + 1) % 64)) (sym (ap x.model.queue here)) (finished, some, λ same. ap (λ (k : ℕ). x.word (Ack k)) (sym same) ∙ acked) in
         any_release (h.sources j) can.0 can.1 can.2
 
 -- a step that touches no word of a queue or a source; a cut also sends each source to its first row

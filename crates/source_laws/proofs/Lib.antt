@@ -1,8 +1,4 @@
-pub mod Changes
-pub mod Slots
-pub mod Rings
 pub mod Numbers
-pub mod Queues
 pub mod Sources
 pub mod Drifts
 pub mod Own
@@ -15,5 +11,4 @@ pub mod Fits
 pub mod Steps
 pub mod Journals
 pub mod Runs
-pub mod Looks
 pub mod Ports

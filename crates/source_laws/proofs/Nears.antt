@@ -1,13 +1,13 @@
 -- The part of a source through the steps of the others.
-use Rattle.std.proofs.Common.{◌≡◌, inl, inr, ℕ, suc, ◌%◌, ◌<◌, ◌≤◌, true, length, sym, subst}
+use Rattle.std.proofs.Common.{◌≡◌, inl, inr, ℕ, ◌+◌, ◌%◌, ◌<◌, ◌≤◌, true, length, sym, subst}
 use Rattle.std.proofs.lemmas.Bool.{cases_eq}
 use Rattle.push_core.specs.declared.row.Row.{Row}
 use Rattle.fram_words.specs.Places.{Tail, Ack, Src}
-use Rattle.source_laws.specs.QueueEvent.{QueueEvent}
-use Rattle.source_laws.specs.Model.{Board, Queue, Source, Near, with_event, without_first, with_finished}
-use Rattle.source_laws.specs.Stands.{StandsSource, IsFinishing, event_at}
+use Rattle.ink_base.specs.declared.event.Event.{Event}
+use Rattle.push_core.specs.Queue.{Queue, Source, event_at, event_source, event_count, IsFinishing, KeepsNumbers, with_event, without_first, with_finished}
+use Rattle.source_laws.specs.Model.{Board, Near}
 use Rattle.source_laws.specs.Kept.{State, near, SourceKept}
-use Rattle.source_laws.proofs.Sources.{source_tail, source_push_other, source_finish, source_ack, source_release_own, source_release_other}
+use Rattle.source_laws.proofs.Sources.{source_push_other, source_finish, source_ack, source_release_own, source_release_other}
 use Rattle.source_laws.proofs.Drifts.{changed, Drifts, knows_drift, drift_tail, drift_push, drift_finish, drift_ack, drift_release, IsAcked}
 
 -- what is near the source after a step, by its parts
@@ -21,26 +21,26 @@ source_as {i} {places} {readings} h same at = subst (λ (z : Near × Row). Sourc
 
 module _ {i places readings : ℕ} {n : Near} {row : Row} (h : SourceKept i places readings n row) where
   -- the others' change drifts, and the words stand after it
-  drifted : (tail ack : ℕ) (q : Queue) → StandsSource i (changed n tail ack q) → Drifts i places n tail ack q → SourceKept i places readings (changed n tail ack q) row
+  drifted : (tail ack : ℕ) (q : Queue) → KeepsNumbers i n.src ack q n.source → Drifts i places n tail ack q → SourceKept i places readings (changed n tail ack q) row
   drifted tail ack q stands d = record { stands = stands; ordered = h.ordered; knows = knows_drift d readings row.accepted row.next row.stage h.knows }
 
   pub other_tail : (tail : ℕ) → n.tail ≤ tail → SourceKept i places readings (record n { tail = tail }) row
-  other_tail tail up = drifted tail n.ack n.queue (source_tail h.stands tail) (drift_tail i places n tail up)
+  other_tail tail up = drifted tail n.ack n.queue h.stands (drift_tail i places n tail up)
 
-  pub other_push : (e : QueueEvent) → (e.source ≡ i → ⊥) → SourceKept i places readings (record n { queue = with_event n.queue e }) row
+  pub other_push : (e : Event) → (event_source e ≡ i → ⊥) → SourceKept i places readings (record n { queue = with_event n.queue e }) row
   other_push e other = drifted n.tail n.ack (with_event n.queue e) (source_push_other h.stands e other) (drift_push i places n e)
 
   pub other_finish : SourceKept i places readings (record n { queue = with_finished n.queue }) row
   other_finish = drifted n.tail n.ack (with_finished n.queue) (source_finish h.stands) (drift_finish i places n)
 
-  pub own_acked : (ack : ℕ) → IsFinishing i n.queue → length n.queue.held ≤ 32 → ack ≡ suc (event_at n.queue.held 0).count % 64 → SourceKept i places readings (record n { ack = ack }) row
+  pub own_acked : (ack : ℕ) → IsFinishing i n.queue → length n.queue.held ≤ 32 → ack ≡ (event_count (event_at n.queue.held 0) + 1) % 64 → SourceKept i places readings (record n { ack = ack }) row
   own_acked ack f room is = drifted n.tail ack n.queue (source_ack h.stands ack f is) (drift_ack i places n ack f room is h.stands)
 
   pub any_release : n.queue.finished ≡ true → 0 < length n.queue.held → IsAcked i n → SourceKept i places readings (record n { queue = without_first n.queue }) row
   any_release finished some acked = drifted n.tail n.ack (without_first n.queue) stands (drift_release i places n some acked)
     where
-      stands : StandsSource i (record n { queue = without_first n.queue })
-      stands = elim (cases_eq (event_at n.queue.held 0).source i) [
+      stands : KeepsNumbers i n.src n.ack (without_first n.queue) n.source
+      stands = elim (cases_eq (event_source (event_at n.queue.held 0)) i) [
         | inl mine ↦ source_release_own h.stands (record { finished = finished; some = some; own = mine }) (acked mine)
         | inr other ↦ source_release_other h.stands some other
       ]

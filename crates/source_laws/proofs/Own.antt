@@ -1,40 +1,41 @@
 -- What a source knows after each of its own accesses.
-use Rattle.std.proofs.Common.{◌≡◌, ◌⊎◌, inl, inr, ℕ, suc, ◌+◌, ◌/◌, ◌%◌, ◌^◌, ◌<◌, ◌≤◌, ◌==◌, ◌&&◌, ◌||◌, cond, nat_lt, Bool, true, false, length, refl, sym, ap, ◌∙◌, subst, arith, Some, None, Option, mod-lt}
+use Rattle.std.proofs.Common.{◌≡◌, ◌⊎◌, inl, inr, ℕ, ◌+◌, ◌/◌, ◌%◌, ◌^◌, ◌<◌, ◌≤◌, ◌==◌, ◌&&◌, ◌||◌, cond, nat_lt, Bool, true, false, length, refl, sym, ap, ◌∙◌, subst, arith, Some, None, Option, mod-lt}
 use Rattle.std.proofs.lemmas.Bool.{cases_lt, cases_eq, or_cases, and_parts, and_from, eqb-true, eq-eqb, ne_eqb, ltb-true, ltb-false, lt-ltb, false≢true, true≢false}
 use Rattle.ink_base.specs.declared.ids.SourceId.{SourceId}
 use Rattle.push_core.specs.declared.slot.Slot.{Slot}
 use Rattle.push_core.specs.declared.slot.Slot.TheVariants.{Empty, Full}
-use Rattle.push_core.specs.Slots.{slot_in}
-use Rattle.source_laws.specs.Slots.{full, empty, FitsSlot, full_slot, source_id}
-use Rattle.source_laws.specs.Model.{Queue, Near, published}
+use Rattle.push_core.specs.Slots.{empty_word, slot_in}
+use Rattle.push_core.specs.Queue.{Queue, published, event_at, event_source, event_count, event_word, event_slot, IsNumber, FitsEvent, StandsQueue, KeepsNumbers}
+use Rattle.push_core.proofs.Slots.{slot_in-empty}
+use Rattle.push_core.proofs.Events.{slot_in-event_word, event_word-≢-empty_word, number_source, number_count}
+use Rattle.push_core.proofs.Rings.{same_position, next_turn}
+use Rattle.push_core.proofs.Queues.{SlotIs, Holds, IsEmpty, slot_is}
+use Rattle.source_laws.specs.Model.{Near}
 use Rattle.push_core.specs.Table.{src_word}
-use Rattle.source_laws.specs.Stands.{StandsQueue, StandsSource, event_at}
 use Rattle.push_core.specs.declared.stage.Stage.{Stage}
 use Rattle.push_core.specs.declared.stage.Stage.TheVariants.{LoadSlots, LoadAck, LoadTail, LoadSlot, Publish, HelpTail, StoreSkip, StoreAccepted}
 use Rattle.push_core.specs.Table.{shows_own, after_boot_slot, after_ack, after_slot, is_full_at}
 use Rattle.source_laws.specs.Knows.{KnowsAt, Boots}
 use Rattle.source_laws.specs.Kept.{IsOrdered}
-use Rattle.source_laws.proofs.Slots.{slot_in-full, slot_in-empty}
-use Rattle.source_laws.proofs.Rings.{same_position, next_turn}
-use Rattle.source_laws.proofs.Queues.{SlotIs, Holds, IsEmpty, slot_is}
 use Rattle.source_laws.proofs.Sources.{own_count, ack_behind, last_one, src_parts, stored_as}
 
 -- what is known of a source, its queue and its words
 pub record Own (i places readings : ℕ) (slot : ℕ → ℕ) (v : Near) : Type 0 where
   pub queue : StandsQueue places slot v.tail v.queue
-  pub source : StandsSource i v
+  pub source : KeepsNumbers i v.src v.ack v.queue v.source
   pub ordered : IsOrdered readings v.source
-  pub fits : (k : ℕ) → k < length v.queue.held → FitsSlot (v.queue.released + k) (event_at v.queue.held k)
+  pub fits : (k : ℕ) → k < length v.queue.held → FitsEvent (v.queue.released + k) (event_at v.queue.held k)
   pub positions : v.queue.released + places < 2 ^ 21
   pub some : 0 < places
   pub small : places ≤ 32
   pub few : readings ≤ 65535
+  pub known : i < 16
 
 -- what the slot of a loaded tail shows: that it is the next position and free, the event one turn before, or that the position is passed
 data Look (places : ℕ) (slot : ℕ → ℕ) (tail : ℕ) (q : Queue) (p : ℕ) : Type 0 where
-  Free : slot (p % places) ≡ empty p → slot_in (slot (p % places)) ≡ Some (Empty p) → published q ≡ p → length q.held < places → tail ≡ p → Look places slot tail q p
-  Turn : slot_in (slot (p % places)) ≡ Some (full_slot q.released (event_at q.held 0)) → q.released + places ≡ p → length q.held ≡ places → Look places slot tail q p
-  Passed : p < published q → (slot (p % places) ≡ empty p → ⊥) → ((x : ℕ) (i : SourceId) (c v : ℕ) → slot_in (slot (p % places)) ≡ Some (Full x i c v) → x + places ≡ p → ⊥) → ((x : ℕ) → slot_in (slot (p % places)) ≡ Some (Empty x) → x ≡ p → ⊥) → Look places slot tail q p
+  Free : slot (p % places) ≡ empty_word p → slot_in (slot (p % places)) ≡ Some (Empty p) → published q ≡ p → length q.held < places → tail ≡ p → Look places slot tail q p
+  Turn : slot_in (slot (p % places)) ≡ Some (event_slot q.released (event_at q.held 0)) → q.released + places ≡ p → length q.held ≡ places → Look places slot tail q p
+  Passed : p < published q → (slot (p % places) ≡ empty_word p → ⊥) → ((x : ℕ) (i : SourceId) (c v : ℕ) → slot_in (slot (p % places)) ≡ Some (Full x i c v) → x + places ≡ p → ⊥) → ((x : ℕ) → slot_in (slot (p % places)) ≡ Some (Empty x) → x ≡ p → ⊥) → Look places slot tail q p
 
 passed_row : (places p : ℕ) (o : Option Slot) → ((x : ℕ) (i : SourceId) (c v : ℕ) → o ≡ Some (Full x i c v) → x + places ≡ p → ⊥) → ((x : ℕ) → o ≡ Some (Empty x) → x ≡ p → ⊥) → after_slot places p o ≡ HelpTail p
 passed_row places p None nf ne = refl
@@ -74,8 +75,8 @@ module _ {i places readings : ℕ} {slot : ℕ → ℕ} {v : Near} (h : Own i pl
           word = st.2 ∙ sym (λ j. src_word (a-is j) (k-is j));
           small = omega arith;
           seen_one = λ e. absurd (false≢true e);
-          unseen_one = λ one. elim (last_one h.source (v.src % 2 ^ 32) one) [
-            | inl x ↦ inr (inl (x.0, x.1, x.2, x.3, omega arith))
+          unseen_one = λ one. elim (last_one h.source (v.src % 2 ^ 32) (omega (arith, h.known)) one) [
+            | inl x ↦ inr (inl (x.0, x.1, x.2, omega arith))
             | inr y ↦ inr (inr y)
           ];
         },
@@ -83,30 +84,31 @@ module _ {i places readings : ℕ} {slot : ℕ → ℕ} {v : Near} (h : Own i pl
       )
 
   -- what a word of the queue reads as
-  read_held : (n k : ℕ) → k < length v.queue.held → slot n ≡ full (v.queue.released + k) (event_at v.queue.held k) → slot_in (slot n) ≡ Some (full_slot (v.queue.released + k) (event_at v.queue.held k))
-  read_held n k lt is = ap slot_in is ∙ slot_in-full (v.queue.released + k) (event_at v.queue.held k) (h.fits k lt)
+  read_held : (n k : ℕ) → k < length v.queue.held → slot n ≡ event_word (v.queue.released + k) (event_at v.queue.held k) → slot_in (slot n) ≡ Some (event_slot (v.queue.released + k) (event_at v.queue.held k))
+  read_held n k lt is = ap slot_in is ∙ slot_in-event_word (v.queue.released + k) (event_at v.queue.held k) (h.fits k lt)
 
-  read_free : (n p : ℕ) → p < v.queue.released + places → slot n ≡ empty p → slot_in (slot n) ≡ Some (Empty p)
+  read_free : (n p : ℕ) → p < v.queue.released + places → slot n ≡ empty_word p → slot_in (slot n) ≡ Some (Empty p)
   read_free n p below is = ap slot_in is ∙ slot_in-empty p (omega (arith, h.positions))
 
   -- a slot shows an own event with the count a only where a counts as accepted
-  shows_one : (a n : ℕ) → SlotIs places slot v.queue n → shows_own (source_id i) a (slot_in (slot n)) ≡ true → v.source.accepted ≡ a → ⊥
+  shows_one : (a n : ℕ) → SlotIs places slot v.queue n → shows_own (record { 0 = i }) a (slot_in (slot n)) ≡ true → v.source.accepted ≡ a → ⊥
   shows_one a n (Holds k lt at is) found same =
-      let t : ((event_at v.queue.held k).source == i && (event_at v.queue.held k).count == a % 64) ≡ true = sym (ap (shows_own (source_id i) a) (read_held n k lt is)) ∙ found in
+      let t : (event_source (event_at v.queue.held k) == i && event_count (event_at v.queue.held k) == a % 64) ≡ true = sym (ap (shows_own (record { 0 = i }) a) (read_held n k lt is)) ∙ found in
       let parts = and_parts _ _ t in
       own_count h.source a k (omega (arith, h.queue.room, h.small)) lt (eqb-true _ _ parts.0) (eqb-true _ _ parts.1) same
-  shows_one a n (IsEmpty p above below at is) found same = false≢true (sym (ap (shows_own (source_id i) a) (read_free n p below is)) ∙ found)
+  shows_one a n (IsEmpty p above below at is) found same = false≢true (sym (ap (shows_own (record { 0 = i }) a) (read_free n p below is)) ∙ found)
 
   -- a slot shows the event that is ahead in it
-  shows_ahead : (a n j : ℕ) → j < length v.queue.held → (event_at v.queue.held j).source ≡ i → (event_at v.queue.held j).count ≡ a % 64 → (v.queue.released + j) % places ≡ n → shows_own (source_id i) a (slot_in (slot n)) ≡ true
-  shows_ahead a n j lt own count at = ap (shows_own (source_id i) a) (read_held n j lt (ap slot (sym at) ∙ h.queue.full_slots j lt)) ∙ and_from _ _ (eq-eqb _ _ own) (eq-eqb _ _ count)
+  shows_ahead : (a n j : ℕ) → j < length v.queue.held → IsNumber i a (event_at v.queue.held j) → (v.queue.released + j) % places ≡ n → shows_own (record { 0 = i }) a (slot_in (slot n)) ≡ true
+  shows_ahead a n j lt is at =
+      ap (shows_own (record { 0 = i }) a) (read_held n j lt (ap slot (sym at) ∙ h.queue.full_slots j lt)) ∙ and_from _ _ (eq-eqb _ _ (number_source i a (event_at v.queue.held j) is)) (eq-eqb _ _ (number_count i a (event_at v.queue.held j) is))
 
   -- the numbers of SRC are the source's, or one less
-  boots_as : (a k n : ℕ) (seen : Bool) → Boots i places v a k n seen → ((v.source.accepted ≡ a) × (v.source.next ≡ k)) ⊎ ((v.source.accepted ≡ suc a) × (v.source.next ≡ suc k))
+  boots_as : (a k n : ℕ) (seen : Bool) → Boots i places v a k n seen → ((v.source.accepted ≡ a) × (v.source.next ≡ k)) ⊎ ((v.source.accepted ≡ a + 1) × (v.source.next ≡ k + 1))
   boots_as a k n seen b = stored_as h.source a k b.small accepted_small b.word
 
   -- the load of one slot in the boot
-  boots_next : (a k n : ℕ) (seen : Bool) → n < places → Boots i places v a k n seen → Boots i places v a k (n + 1) (seen || shows_own (source_id i) a (slot_in (slot n)))
+  boots_next : (a k n : ℕ) (seen : Bool) → n < places → Boots i places v a k n seen → Boots i places v a k (n + 1) (seen || shows_own (record { 0 = i }) a (slot_in (slot n)))
   boots_next a k n seen lt b = record {
     word = b.word;
     small = b.small;
@@ -120,24 +122,24 @@ module _ {i places readings : ℕ} {slot : ℕ → ℕ} {v : Near} (h : Own i pl
     unseen_one = λ one. elim (b.unseen_one one) [
       | inl before ↦ inl (or_first seen _ before)
       | inr (inl x) ↦ elim (cases_eq ((v.queue.released + x.0) % places) n) [
-        | inl here ↦ inl (or_second seen _ (shows_ahead a n x.0 x.1 x.2 x.3 here))
-        | inr beyond ↦ inr (inl (x.0, x.1, x.2, x.3, omega (arith, x.4, beyond)))
+        | inl here ↦ inl (or_second seen _ (shows_ahead a n x.0 x.1 x.2 here))
+        | inr beyond ↦ inr (inl (x.0, x.1, x.2, omega (arith, x.3, beyond)))
       ]
       | inr (inr y) ↦ inr (inr y)
     ];
   }
 
   pub own_slots : (a k n : ℕ) (seen : Bool) → KnowsNow a k (LoadSlots n seen)
-      → KnowsNow a k (after_boot_slot places n (seen || shows_own (source_id i) a (slot_in (slot n))))
+      → KnowsNow a k (after_boot_slot places n (seen || shows_own (record { 0 = i }) a (slot_in (slot n))))
   own_slots a k n seen b = by_test (nat_lt (n + 1) places) refl
     where
-      next : Boots i places v a k (n + 1) (seen || shows_own (source_id i) a (slot_in (slot n)))
+      next : Boots i places v a k (n + 1) (seen || shows_own (record { 0 = i }) a (slot_in (slot n)))
       next = boots_next a k n seen b.1 b.0
 
       by_test : (t : Bool) → nat_lt (n + 1) places ≡ t
-          → KnowsNow a k (cond t (LoadSlots (n + 1) (seen || shows_own (source_id i) a (slot_in (slot n)))) (LoadAck (seen || shows_own (source_id i) a (slot_in (slot n)))))
+          → KnowsNow a k (cond t (LoadSlots (n + 1) (seen || shows_own (record { 0 = i }) a (slot_in (slot n)))) (LoadAck (seen || shows_own (record { 0 = i }) a (slot_in (slot n)))))
       by_test true e = (next, ltb-true _ _ e)
-      by_test false e = subst (λ (m : ℕ). Boots i places v a k m (seen || shows_own (source_id i) a (slot_in (slot n)))) (let same : n + 1 ≡ places = omega (arith, ltb-false _ _ e, b.1) in same) next
+      by_test false e = subst (λ (m : ℕ). Boots i places v a k m (seen || shows_own (record { 0 = i }) a (slot_in (slot n)))) (let same : n + 1 ≡ places = omega (arith, ltb-false _ _ e, b.1) in same) next
 
   -- the load of ACK
   pub own_ack : (a k : ℕ) (seen : Bool) → KnowsNow a k (LoadAck seen) → KnowsNow a k (after_ack a (nat_lt k readings) seen v.ack)
@@ -148,7 +150,7 @@ module _ {i places readings : ℕ} {slot : ℕ → ℕ} {v : Near} (h : Own i pl
           elim (boots_as a k places seen b) [
             | inl before ↦ elim (or_cases seen _ (and_parts _ _ e).1) [
               | inl found ↦ absurd (omega (arith, b.seen_one found, before.0))
-              | inr acked ↦ absurd (ack_behind h.source a (omega (arith, h.queue.room, h.small)) (let f : v.ack ≡ (a + 1) % 64 = eqb-true _ _ acked in let e : v.ack ≡ suc a % 64 = omega arith in e) before.0)
+              | inr acked ↦ absurd (ack_behind h.source a (omega (arith, h.queue.room, h.small)) (eqb-true _ _ acked) before.0)
             ]
             | inr late ↦ record { word = b.word; accepted = late.0; next = late.1 }
           ]
@@ -159,8 +161,8 @@ module _ {i places readings : ℕ} {slot : ℕ → ℕ} {v : Near} (h : Own i pl
                 let left : nat_lt k readings ≡ true = lt-ltb _ _ (omega (arith, late.1, h.ordered.next)) in
                 let found : (seen || v.ack == (a + 1) % 64) ≡ true = elim (b.unseen_one late.0) [
                   | inl before ↦ or_first seen _ before
-                  | inr (inl x) ↦ absurd (omega (arith, x.4, mod-lt (v.queue.released + x.0) h.some))
-                  | inr (inr y) ↦ or_second seen _ (eq-eqb _ _ (let e : v.ack ≡ (a + 1) % 64 = omega (arith, y) in e))
+                  | inr (inl x) ↦ absurd (omega (arith, x.3, mod-lt (v.queue.released + x.0) h.some))
+                  | inr (inr y) ↦ or_second seen _ (eq-eqb _ _ y)
                 ] in
                 absurd (false≢true (sym e ∙ and_from _ _ left found))
           ]
@@ -178,21 +180,21 @@ module _ {i places readings : ℕ} {slot : ℕ → ℕ} {v : Near} (h : Own i pl
       by_slot : SlotIs places slot v.queue (p % places) → Look places slot v.tail v.queue p
       by_slot (IsEmpty x above below at is) =
           elim (cases_eq x p) [
-            | inl same ↦ Free (is ∙ ap empty same) (read_free (p % places) x below is ∙ ap (λ (y : ℕ). Some (Empty y)) same) (omega (arith, tail_at_most)) (omega (arith, tail_at_most)) (omega (arith, tail_at_most))
+            | inl same ↦ Free (is ∙ ap empty_word same) (read_free (p % places) x below is ∙ ap (λ (y : ℕ). Some (Empty y)) same) (omega (arith, tail_at_most)) (omega (arith, tail_at_most)) (omega (arith, tail_at_most))
             | inr other ↦
                 let before : p < published v.queue = elim (cases_lt p (published v.queue)) [
                   | inl lt ↦ lt
                   | inr ge ↦ absurd (other (same_position places v.queue.released x p (omega arith) below (omega (arith, tail_at_most)) (omega (arith, tail_at_most)) at))
                 ] in
                 let read = read_free (p % places) x below is in
-                Passed before (λ e. other (let e' : empty x ≡ empty p = sym is ∙ e in omega arith)) (λ y i c z r f. let e' : Some (Empty x) ≡ Some (Full y i c z) = sym read ∙ r in cc) (λ y r f. let e' : Some (Empty x) ≡ Some (Empty y) = sym read ∙ r in other (let same : x ≡ y = cc in same ∙ f))
+                Passed before (λ e. other (let e' : empty_word x ≡ empty_word p = sym is ∙ e in omega arith)) (λ y i c z r f. let e' : Some (Empty x) ≡ Some (Full y i c z) = sym read ∙ r in cc) (λ y r f. let e' : Some (Empty x) ≡ Some (Empty y) = sym read ∙ r in other (let same : x ≡ y = cc in same ∙ f))
           ]
       by_slot (Holds k lt at is) =
           elim (cases_eq (v.queue.released + k + places) p) [
             | inl turn ↦
                 let zero_k : v.queue.released + k ≡ v.queue.released = omega (arith, tail_at_most, h.queue.room) in
                 let first : k ≡ 0 = omega arith in
-                Turn (read_held (p % places) k lt is ∙ ap (λ (y : ℕ). Some (full_slot (v.queue.released + y) (event_at v.queue.held y))) first ∙ ap (λ (y : ℕ). Some (full_slot y (event_at v.queue.held 0))) (let e : v.queue.released + 0 ≡ v.queue.released = omega arith in e)) (omega (arith, tail_at_most, h.queue.room)) (omega (arith, tail_at_most, h.queue.room))
+                Turn (read_held (p % places) k lt is ∙ ap (λ (y : ℕ). Some (event_slot (v.queue.released + y) (event_at v.queue.held y))) first ∙ ap (λ (y : ℕ). Some (event_slot y (event_at v.queue.held 0))) (let e : v.queue.released + 0 ≡ v.queue.released = omega arith in e)) (omega (arith, tail_at_most, h.queue.room)) (omega (arith, tail_at_most, h.queue.room))
             | inr other ↦
                 let before : p < published v.queue = elim (cases_lt p (published v.queue)) [
                   | inl before ↦ before
@@ -205,7 +207,7 @@ module _ {i places readings : ℕ} {slot : ℕ → ℕ} {v : Near} (h : Own i pl
                   ]
                 ] in
                 let read = read_held (p % places) k lt is in
-                Passed before (λ e. let e' : full (v.queue.released + k) (event_at v.queue.held k) ≡ empty p = sym is ∙ e in omega (arith, before, h.queue.room, h.positions)) (λ y i c z r f. let e' : Some (full_slot (v.queue.released + k) (event_at v.queue.held k)) ≡ Some (Full y i c z) = sym read ∙ r in let same : v.queue.released + k ≡ y = cc in other (omega arith)) (λ y r f. let e' : Some (full_slot (v.queue.released + k) (event_at v.queue.held k)) ≡ Some (Empty y) = sym read ∙ r in cc)
+                Passed before (λ e. event_word-≢-empty_word (v.queue.released + k) (event_at v.queue.held k) p (h.fits k lt) (omega (arith, before, h.queue.room, h.positions)) (sym is ∙ e)) (λ y i c z r f. let e' : Some (event_slot (v.queue.released + k) (event_at v.queue.held k)) ≡ Some (Full y i c z) = sym read ∙ r in let same : v.queue.released + k ≡ y = cc in other (omega arith)) (λ y r f. let e' : Some (event_slot (v.queue.released + k) (event_at v.queue.held k)) ≡ Some (Empty y) = sym read ∙ r in cc)
           ]
 
   -- the load of the tail's slot: without a refusal
@@ -227,16 +229,16 @@ module _ {i places readings : ℕ} {slot : ℕ → ℕ} {v : Near} (h : Own i pl
       by_look (Passed before not_free not_full not_empty) = absurd (true≢false (sym found ∙ passed_no places p (slot_in (slot (p % places))) not_full))
 
   -- the exchange that publishes: won
-  pub own_won : (p : ℕ) → p ≤ v.tail → slot (p % places) ≡ empty p → (published v.queue ≡ p) × (length v.queue.held < places) × (v.tail ≡ p)
+  pub own_won : (p : ℕ) → p ≤ v.tail → slot (p % places) ≡ empty_word p → (published v.queue ≡ p) × (length v.queue.held < places) × (v.tail ≡ p)
   own_won p low is = by_look (look p low)
     where
       by_look : Look places slot v.tail v.queue p → (published v.queue ≡ p) × (length v.queue.held < places) × (v.tail ≡ p)
       by_look (Free _ read at room tail-is) = (at, room, tail-is)
-      by_look (Turn read at all) = let e : Some (full_slot v.queue.released (event_at v.queue.held 0)) ≡ Some (Empty p) = sym read ∙ (ap slot_in is ∙ slot_in-empty p (omega (arith, tail_at_most, h.queue.room, h.positions))) in absurd cc
+      by_look (Turn read at all) = let e : Some (event_slot v.queue.released (event_at v.queue.held 0)) ≡ Some (Empty p) = sym read ∙ (ap slot_in is ∙ slot_in-empty p (omega (arith, tail_at_most, h.queue.room, h.positions))) in absurd cc
       by_look (Passed before not_free not_full not_empty) = absurd (not_free is)
 
   -- and lost
-  pub own_lost : (p : ℕ) → p ≤ v.tail → p < v.queue.released + places → (slot (p % places) ≡ empty p → ⊥) → p < published v.queue
+  pub own_lost : (p : ℕ) → p ≤ v.tail → p < v.queue.released + places → (slot (p % places) ≡ empty_word p → ⊥) → p < published v.queue
   own_lost p low below lost =
       elim (cases_lt p (published v.queue)) [
         | inl before ↦ before

@@ -9,9 +9,10 @@ use Rattle.fram_words.specs.declared.access.Access.TheVariants as fram
 use Rattle.fram_words.specs.Accesses.{at_address}
 use Rattle.fram_words.specs.Places as places
 use Rattle.fram_words.specs.Shape.{address}
-use Rattle.source_laws.specs.Slots.{empty, full}
-use Rattle.source_laws.specs.Model.{places_for, Board, event_of}
-use Rattle.source_laws.specs.Rows.{access, access_at, port_of}
+use Rattle.push_core.specs.Slots.{empty_word}
+use Rattle.push_core.specs.Queue.{event_word}
+use Rattle.source_laws.specs.Model.{places_for, Board}
+use Rattle.source_laws.specs.Rows.{access, access_at, event_of, port_of}
 
 slot_at : (board : Board) (t n : ℕ) → address board.shape (places.Slot t 0) + n ≡ address board.shape (places.Slot t n)
 unfolding address
@@ -23,7 +24,7 @@ access_at-port board i a k (LoadSlots n seen) = ap (λ x. fram.Load x) (slot_at 
 access_at-port board i a k (LoadAck seen) = refl
 access_at-port board i a k LoadTail = refl
 access_at-port board i a k (LoadSlot p) = ap (λ x. fram.Load x) (slot_at board (board.queue_of i) (p % places_for board i))
-access_at-port board i a k (Publish p) = ap (λ (x : ℕ). fram.Exchange x (empty p) (full p (event_of board i a k))) (slot_at board (board.queue_of i) (p % places_for board i))
+access_at-port board i a k (Publish p) = ap (λ (x : ℕ). fram.Exchange x (empty_word p) (event_word p (event_of board i a k))) (slot_at board (board.queue_of i) (p % places_for board i))
 access_at-port board i a k (MoveTail p) = refl
 access_at-port board i a k (HelpTail p) = refl
 access_at-port board i a k StoreSkip = refl

@@ -5,17 +5,16 @@ use Rattle.std.proofs.lemmas.List.{get_or_append_left, get_or_push}
 use Rattle.push_core.specs.Table.{src_word}
 use Rattle.push_core.specs.declared.row.Row.{Row}
 use Rattle.fram_words.specs.Changes.{Becomes}
-use Rattle.source_laws.specs.QueueEvent.{QueueEvent}
-use Rattle.source_laws.specs.Slots.{full}
+use Rattle.ink_base.specs.declared.event.Event.{Event}
+use Rattle.push_core.specs.Queue.{Queue, Source, published, event_at, no_event, next_event, event_word, IsQueued, StandsQueue, with_event, with_accepted}
+use Rattle.push_core.proofs.Queues.{queue_same, queue_push}
+use Rattle.push_core.proofs.Unsettled.{unsettled_one}
 use Rattle.fram_words.specs.Places.{Tail, Ack, Src}
 use Rattle.fram_words.specs.Places as places
-use Rattle.source_laws.specs.Model.{places_for, Board, Queue, Source, Model, published, BothBecome, event_of, with_event, with_accepted}
-use Rattle.source_laws.specs.Stands.{StandsQueue, event_at, no_event}
+use Rattle.source_laws.specs.Model.{places_for, Board, Model, BothBecome}
 use Rattle.source_laws.specs.Knows.{Knows}
-use Rattle.source_laws.specs.Kept.{State, Kept, near, slots_of, QueueKept, SourcePart, EventsKept, IsEvent, IsWithin}
-use Rattle.source_laws.proofs.Queues.{queue_same, queue_push}
-use Rattle.source_laws.proofs.Sources.{source_push_own, source_tail}
-use Rattle.source_laws.proofs.Counts.{unsettled_one}
+use Rattle.source_laws.specs.Kept.{State, Kept, near, slots_of, QueueKept, SourcePart, EventsKept, IsWithin}
+use Rattle.source_laws.proofs.Sources.{source_push_own}
 use Rattle.source_laws.proofs.Nears.{near_is, source_as, other_tail, other_push}
 use Rattle.source_laws.proofs.Frames.{queue_part, events_part, slots_become}
 
@@ -34,7 +33,7 @@ kept_tail board x y i tail row word model rows up stands knows h = record {
   events = λ t. events_part board x y t (queue t) (λ j. omega (arith, ap (λ (z : Source). z.next) (source j))) (h.events t);
   sources = λ j. elim (cases_eq j i) [
     | inl same ↦ subst (SourcePart board y) (sym same)
-        (source_as {n = record (near board x i) { tail = tail }} (record { stands = source_tail (h.sources i).stands tail; ordered = (h.sources i).ordered; knows = knows })
+        (source_as {n = record (near board x i) { tail = tail }} (record { stands = (h.sources i).stands; ordered = (h.sources i).ordered; knows = knows })
         (near_is board y i word.here (word.elsewhere (Src i) (λ e. cc)) (word.elsewhere (Ack i) (λ e. cc)) (queue (board.queue_of i)) (source i)) rows.here)
     | inr other ↦ source_as (other_tail (h.sources j) (y.word (Tail (board.queue_of j))) (tail_up (board.queue_of j)))
         (near_is board y j refl (word.elsewhere (Src j) (λ e. cc)) (word.elsewhere (Ack j) (λ e. cc)) (queue (board.queue_of j)) (source j)) (rows.elsewhere j other)
@@ -62,10 +61,10 @@ pub kept_push : (board : Board) (x y : State) (i : ℕ) (row : Row) → i < boar
     → x.word (Tail (board.queue_of i)) ≡ published (x.model.queue (board.queue_of i))
     → (x.model.source i).next < length (board.readings i)
     → x.word (Src i) ≡ src_word (x.model.source i).accepted (x.model.source i).next
-    → Becomes (places.Slot (board.queue_of i) (published (x.model.queue (board.queue_of i)) % places_for board i)) (full (published (x.model.queue (board.queue_of i))) (event_of board i (x.model.source i).accepted (x.model.source i).next)) x.word y.word
-    → BothBecome (board.queue_of i) (with_event (x.model.queue (board.queue_of i)) (event_of board i (x.model.source i).accepted (x.model.source i).next)) i (with_accepted (x.model.source i)) x.model y.model
+    → Becomes (places.Slot (board.queue_of i) (published (x.model.queue (board.queue_of i)) % places_for board i)) (event_word (published (x.model.queue (board.queue_of i))) (next_event i (board.readings i) (x.model.source i))) x.word y.word
+    → BothBecome (board.queue_of i) (with_event (x.model.queue (board.queue_of i)) (next_event i (board.readings i) (x.model.source i))) i (with_accepted (x.model.source i)) x.model y.model
     → Becomes i row x.row y.row
-    → Knows i (places_for board i) (length (board.readings i)) (record (near board x i) { queue = with_event (x.model.queue (board.queue_of i)) (event_of board i (x.model.source i).accepted (x.model.source i).next); source = with_accepted (x.model.source i) }) row
+    → Knows i (places_for board i) (length (board.readings i)) (record (near board x i) { queue = with_event (x.model.queue (board.queue_of i)) (next_event i (board.readings i) (x.model.source i)); source = with_accepted (x.model.source i) }) row
     → Kept board x → Kept board y
 kept_push board x y i row within w room at left ready word both rows knows h = record {
   queues = λ t. elim (cases_eq t t0) [
@@ -98,8 +97,8 @@ kept_push board x y i row within w room at left ready word both rows knows h = r
     s : Source
     s = x.model.source i
 
-    e : QueueEvent
-    e = event_of board i (x.model.source i).accepted (x.model.source i).next
+    e : Event
+    e = next_event i (board.readings i) (x.model.source i)
 
     tail : (t : ℕ) → y.word (Tail t) ≡ x.word (Tail t)
     tail t = word.elsewhere (Tail t) (λ f. cc)
@@ -110,8 +109,8 @@ kept_push board x y i row within w room at left ready word both rows knows h = r
     ack : (j : ℕ) → y.word (Ack j) ≡ x.word (Ack j)
     ack j = word.elsewhere (Ack j) (λ f. cc)
 
-    queue_here : (t : ℕ) → t ≡ board.queue_of i → y.model.queue t ≡ with_event (x.model.queue t) (event_of board i (x.model.source i).accepted (x.model.source i).next)
-    queue_here t same = subst (λ (u : ℕ). y.model.queue u ≡ with_event (x.model.queue u) (event_of board i (x.model.source i).accepted (x.model.source i).next)) (sym same) both.queue.here
+    queue_here : (t : ℕ) → t ≡ board.queue_of i → y.model.queue t ≡ with_event (x.model.queue t) (next_event i (board.readings i) (x.model.source i))
+    queue_here t same = subst (λ (u : ℕ). y.model.queue u ≡ with_event (x.model.queue u) (next_event i (board.readings i) (x.model.source i))) (sym same) both.queue.here
 
     settled : (j : ℕ) → (x.model.source j).next ≤ (y.model.source j).next
     settled j = elim (cases_eq j i) [
@@ -122,13 +121,13 @@ kept_push board x y i row within w room at left ready word both rows knows h = r
     pushed_events : EventsKept board y.model.queue y.model.source (board.queue_of i)
     pushed_events =
         let len : length (q.held ++ e ∷ []) ≡ suc (length q.held) = omega (arith, length-append q.held (e ∷ [])) in
-        let new : IsEvent board t0 e = record { source = within; queue = refl; count = omega arith; value = w.values i s.next } in
-        let less = unsettled_one board x.model.source y.model.source i t0 board.shape.sources within refl (ap (λ (z : Source). z.next) both.source.here) left settled in
+        let new : IsQueued board.shape.sources board.queue_of t0 e = (within, refl, omega arith, w.values i s.next) in
+        let less = unsettled_one board.queue_of board.readings x.model.source y.model.source t0 board.shape.sources i within refl (ap (λ (z : Source). z.next) both.source.here) left settled in
         record {
-          events = subst (λ (z : Queue). (k : ℕ) → k < length z.held → IsEvent board t0 (event_at z.held k)) (sym both.queue.here) (λ k lt.
+          events = subst (λ (z : Queue). (k : ℕ) → k < length z.held → IsQueued board.shape.sources board.queue_of t0 (event_at z.held k)) (sym both.queue.here) (λ k lt.
               elim (cases_lt k (length q.held)) [
-                | inl before ↦ subst (IsEvent board t0) (sym (get_or_append_left q.held (e ∷ []) no_event k before)) ((h.events t0).events k before)
-                | inr last ↦ subst (IsEvent board t0) (sym (get_or_push q.held e no_event k (let same : length q.held ≡ k = omega arith in same))) new
+                | inl before ↦ subst (IsQueued board.shape.sources board.queue_of t0) (sym (get_or_append_left q.held (e ∷ []) no_event k before)) ((h.events t0).events k before)
+                | inr last ↦ subst (IsQueued board.shape.sources board.queue_of t0) (sym (get_or_push q.held e no_event k (let same : length q.held ≡ k = omega arith in same))) new
               ]);
           positions = omega (arith, ap published both.queue.here, len, less, (h.events t0).positions);
         }

@@ -1,24 +1,23 @@
 -- Every step keeps the invariant, and the entries that it adds are legal.
-use Rattle.std.proofs.Common.{◌≡◌, inl, ℕ, ◌+◌, suc, ◌<◌, ◌==◌, cond, Bool, true, false, [], ◌∷◌, length, refl, sym, ap, ◌∙◌, subst, arith, MatchBool, length-append}
+use Rattle.std.proofs.Common.{◌≡◌, inl, ℕ, ◌+◌, ◌<◌, ◌==◌, cond, Bool, true, false, [], ◌∷◌, length, refl, sym, ap, ◌∙◌, subst, arith, MatchBool, length-append}
 use Rattle.std.proofs.lemmas.Bool.{eqb-true, eqb-false, ltb-true}
 use Rattle.fram_words.specs.Changes.{Becomes}
 use Rattle.fram_words.specs.Accesses.{Makes}
-use Rattle.push_core.specs.Slots.{slot_in}
-use Rattle.source_laws.specs.Slots.{full, empty}
+use Rattle.push_core.specs.Slots.{empty_word, slot_in}
+use Rattle.push_core.specs.Queue.{published, event_word, StandsQueue, next_event, with_refused, with_skipped}
+use Rattle.push_core.proofs.Queues.{queue_tail}
 use Rattle.fram_words.specs.Places.{Tail, Src}
-use Rattle.source_laws.specs.Model.{places_for, Board, Model, published, event_of, with_refused, with_skipped}
-use Rattle.source_laws.specs.Stands.{StandsQueue}
+use Rattle.source_laws.specs.Model.{places_for, Board, Model}
 use Rattle.push_core.specs.declared.row.Row.{Row}
 use Rattle.push_core.specs.declared.stage.Stage.{Stage}
 use Rattle.push_core.specs.declared.stage.Stage.TheVariants.{LoadSrc, LoadSlots, LoadAck, LoadTail, LoadSlot, Publish, MoveTail, HelpTail, StoreSkip, StoreAccepted}
 use Rattle.push_core.specs.Table.{IsLeft, is_full_at, after_slot, row_at, src_word}
 use Rattle.push_core.specs.declared.point.Point.TheVariants as points
-use Rattle.source_laws.specs.Rows.{entry_of, access, take, entry, found, slot_place}
+use Rattle.source_laws.specs.Rows.{event_of, entry_of, access, take, entry, found, slot_place}
 use Rattle.source_laws.specs.Knows.{Knows}
 use Rattle.source_laws.specs.Kept.{State, Kept, near, slots_of, IsWithin}
 use Rattle.source_laws.specs.Steps.{MayAdd, Adds, SourceStep, Step}
 use Rattle.source_laws.specs.Steps as steps
-use Rattle.source_laws.proofs.Queues.{queue_tail}
 use Rattle.source_laws.proofs.Own.{own_src, own_slots, own_ack, own_tail, own_slot, own_refuse, own_won, own_lost}
 use Rattle.source_laws.proofs.Frames.{own_of, kept_own}
 use Rattle.source_laws.proofs.SourceMoves.{kept_tail, kept_push}
@@ -72,23 +71,23 @@ module _ (board : Board) (x y : State) (i : ℕ) (w : IsWithin board) (lt : i < 
 
   -- the exchange that publishes
   published_by : (a k p : ℕ) → At (row_at a k (Publish p))
-      → MatchBool (x.word (slot_place board i p) == empty p) (Becomes (slot_place board i p) (full p (event_of board i a k)) x.word y.word) (y.word ≡ x.word)
+      → MatchBool (x.word (slot_place board i p) == empty_word p) (Becomes (slot_place board i p) (event_word p (event_of board i a k)) x.word y.word) (y.word ≡ x.word)
       → Becomes i (take board i (row_at a k (Publish p)) (x.word (slot_place board i p))) x.row y.row
       → Adds board (entry board i (row_at a k (Publish p)) (x.word (slot_place board i p))) x.model y.model
       → MayAdd board (entry board i (row_at a k (Publish p)) (x.word (slot_place board i p))) x.model × Kept board y
-  published_by a k p knows word rows model = by_test (x.word (slot_place board i p) == empty p) refl word rows model
+  published_by a k p knows word rows model = by_test (x.word (slot_place board i p) == empty_word p) refl word rows model
     where
-      by_test : (b : Bool) → (x.word (slot_place board i p) == empty p) ≡ b → MatchBool b (Becomes (slot_place board i p) (full p (event_of board i a k)) x.word y.word) (y.word ≡ x.word)
+      by_test : (b : Bool) → (x.word (slot_place board i p) == empty_word p) ≡ b → MatchBool b (Becomes (slot_place board i p) (event_word p (event_of board i a k)) x.word y.word) (y.word ≡ x.word)
           → Becomes i (row_at a k (cond b (MoveTail p) (HelpTail p))) x.row y.row
           → Adds board (entry_of i (cond b points.Pushed points.Nothing)) x.model y.model → MayAdd board (entry_of i (cond b points.Pushed points.Nothing)) x.model × Kept board y
       by_test true e word rows model =
           let won = own_won (own_of board x i w lt h) p knows.2 (eqb-true _ _ e) in
           let left : (x.model.source i).next < length (board.readings i) = omega (arith, knows.0.next, knows.1) in
-          let now = subst (λ (z : ℕ × ℕ × ℕ). Becomes (slot_place board i z.0) (full z.0 (event_of board i z.1 z.2)) x.word y.word) (sym (λ j. (won.0 j, knows.0.accepted j, knows.0.next j))) word in
+          let now = subst (λ (z : ℕ × ℕ × ℕ). Becomes (slot_place board i z.0) (event_word z.0 (event_of board i z.1 z.2)) x.word y.word) (sym (λ j. (won.0 j, knows.0.accepted j, knows.0.next j))) word in
           let ready = knows.0.word ∙ sym (λ j. src_word (knows.0.accepted j) (knows.0.next j)) in (
             (left, won.1),
             kept_push board x y i (row_at a k (MoveTail p)) lt w won.1 (won.2 ∙ sym won.0) left ready now model rows
-                (record { word = knows.0.word; accepted = ap suc knows.0.accepted; next = ap suc knows.0.next }, omega (arith, won.0, length-append (x.model.queue (board.queue_of i)).held (event_of board i (x.model.source i).accepted (x.model.source i).next ∷ []))) h,
+                (record { word = knows.0.word; accepted = ap (λ n. n + 1) knows.0.accepted; next = ap (λ n. n + 1) knows.0.next }, omega (arith, won.0, length-append (x.model.queue (board.queue_of i)).held (next_event i (board.readings i) (x.model.source i) ∷ []))) h,
           )
       by_test false e word rows model = (tt, still (row_at a k (HelpTail p)) word model rows (knows.0, knows.1, own_lost (own_of board x i w lt h) p knows.2 knows.3 (eqb-false _ _ e)))
 
@@ -107,7 +106,7 @@ module _ (board : Board) (x y : State) (i : ℕ) (w : IsWithin board) (lt : i < 
     knows.1,
     kept_own board x y i (src_word a (k + 1)) (with_skipped (x.model.source i)) (row_at a (k + 1) LoadTail) word model rows refl (omega arith)
         (record { accepted = omega (arith, (h.sources i).ordered.accepted); next = omega (arith, knows.0.next, knows.2) })
-        (a, k + 1, refl, inl (knows.0.accepted, (let e : suc (x.model.source i).next ≡ k + 1 = omega (arith, knows.0.next) in e)))
+        (a, k + 1, refl, inl (knows.0.accepted, (let e : (x.model.source i).next + 1 ≡ k + 1 = omega (arith, knows.0.next) in e)))
         (record { word = refl; accepted = knows.0.accepted; next = omega (arith, knows.0.next) }) h,
   )
   step_at a k StoreAccepted knows left word rows model = (

@@ -1,10 +1,9 @@
 -- What every access of every source, every release and every cut keeps.
-use Rattle.std.specs.Prelude.{◌≡◌, ℕ, zero, suc, ◌+◌, ◌-◌, ◌^◌, ◌<◌, ◌≤◌, ◌==◌, length, slice_index, if◌then◌else◌}
-use Rattle.source_laws.specs.QueueEvent.{QueueEvent}
+use Rattle.std.specs.Prelude.{ℕ, ◌+◌, ◌^◌, ◌<◌, ◌≤◌, length, slice_index}
 use Rattle.fram_words.specs.Places.{Place, Tail, Ack, Src}
 use Rattle.fram_words.specs.Places as places
-use Rattle.source_laws.specs.Model.{places_of, places_for, Board, Queue, Source, Near, Model, published}
-use Rattle.source_laws.specs.Stands.{StandsQueue, StandsSource, Tells, event_at}
+use Rattle.push_core.specs.Queue.{Queue, Source, published, event_at, IsQueued, unsettled_into, StandsQueue, StandsSource, KeepsNumbers}
+use Rattle.source_laws.specs.Model.{places_for, Board, Near, Model}
 use Rattle.push_core.specs.Table.{greatest_tail}
 use Rattle.push_core.specs.declared.row.Row.{Row}
 use Rattle.source_laws.specs.Knows.{Knows}
@@ -15,7 +14,7 @@ pub record IsWithin (board : Board) : Type 0 where
   pub readings : (i : ℕ) → length (board.readings i) ≤ 65535
   pub values : (i k : ℕ) → slice_index (board.readings i) k < 2 ^ 32
   pub places : (i : ℕ) → i < board.shape.sources → 0 < places_for board i
-  pub no_more : (t : ℕ) → places_of board t ≤ 32
+  pub no_more : (t : ℕ) → board.places t ≤ 32
 
 -- the words, what they stand for, and where each source is in its table
 pub record State : Type 0 where
@@ -23,30 +22,18 @@ pub record State : Type 0 where
   pub model : Model
   pub row : ℕ → Row
 
--- the readings of the first n sources that aren't settled, where they are of queue t
-abbrev pub unsettled_into : Board → (ℕ → Source) → ℕ → ℕ → ℕ
-unsettled_into board source t zero = 0
-unsettled_into board source t (suc n) = (if board.queue_of n == t then length (board.readings n) - (source n).next else 0) + unsettled_into board source t n
-
--- an event of queue t
-pub record IsEvent (board : Board) (t : ℕ) (e : QueueEvent) : Type 0 where
-  pub source : e.source < board.shape.sources
-  pub queue : board.queue_of e.source ≡ t
-  pub count : e.count < 64
-  pub value : e.value < 2 ^ 32
-
 -- the words of a queue's slots
 abbrev pub slots_of : State → ℕ → ℕ → ℕ
 slots_of x t n = x.word (places.Slot t n)
 
 -- the part of one queue
 abbrev pub QueueKept : Board → State → ℕ → Type 0
-QueueKept board x t = StandsQueue (places_of board t) (slots_of x t) (x.word (Tail t)) (x.model.queue t)
+QueueKept board x t = StandsQueue (board.places t) (slots_of x t) (x.word (Tail t)) (x.model.queue t)
 
 -- its events are those of its sources, and each that it has, or may yet get, has a position
 pub record EventsKept (board : Board) (queue : ℕ → Queue) (source : ℕ → Source) (t : ℕ) : Type 0 where
-  pub events : (k : ℕ) → k < length (queue t).held → IsEvent board t (event_at (queue t).held k)
-  pub positions : published (queue t) + unsettled_into board source t board.shape.sources ≤ greatest_tail
+  pub events : (k : ℕ) → k < length (queue t).held → IsQueued board.shape.sources board.queue_of t (event_at (queue t).held k)
+  pub positions : published (queue t) + unsettled_into board.queue_of board.readings source t board.shape.sources ≤ greatest_tail
 
 -- readings are settled in order
 pub record IsOrdered (readings : ℕ) (s : Source) : Type 0 where
@@ -59,7 +46,7 @@ near board x i = record { tail = x.word (Tail (board.queue_of i)); src = x.word 
 
 -- the part of one source, at a row of its table
 pub record SourceKept (i places readings : ℕ) (n : Near) (row : Row) : Type 0 where
-  pub stands : StandsSource i n
+  pub stands : KeepsNumbers i n.src n.ack n.queue n.source
   pub ordered : IsOrdered readings n.source
   pub knows : Knows i places readings n row
 
@@ -75,4 +62,4 @@ pub record Kept (board : Board) (x : State) : Type 0 where
 -- the words of queues and sources stand for those of the never-cut kernel
 pub record Stands (board : Board) (x : State) : Type 0 where
   pub queues : (t : ℕ) → QueueKept board x t
-  pub sources : (i : ℕ) → i < board.shape.sources → Tells i (near board x i)
+  pub sources : (i : ℕ) → i < board.shape.sources → StandsSource i (x.word (Src i)) (x.word (Ack i)) (x.model.queue (board.queue_of i)).held (x.model.source i)

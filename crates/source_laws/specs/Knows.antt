@@ -1,26 +1,26 @@
 -- What the registers of a source know between two accesses.
-use Rattle.std.specs.Prelude.{◌≡◌, ◌⊎◌, ℕ, suc, ◌+◌, ◌%◌, ◌^◌, ◌<◌, ◌≤◌, Bool, true, length}
-use Rattle.source_laws.specs.Model.{Queue, Source, Near, published}
+use Rattle.std.specs.Prelude.{◌≡◌, ◌⊎◌, ℕ, ◌+◌, ◌%◌, ◌^◌, ◌<◌, ◌≤◌, Bool, true, length}
+use Rattle.push_core.specs.Queue.{Queue, Source, published, event_at, IsNumber}
+use Rattle.source_laws.specs.Model.{Near}
 use Rattle.push_core.specs.Table.{src_word}
 use Rattle.push_core.specs.declared.stage.Stage.{Stage}
 use Rattle.push_core.specs.declared.stage.Stage.TheVariants.{LoadSrc, LoadSlots, LoadAck, LoadTail, LoadSlot, Publish, MoveTail, HelpTail, StoreSkip, StoreAccepted}
 use Rattle.push_core.specs.declared.row.Row.{Row}
-use Rattle.source_laws.specs.Stands.{event_at}
 
 -- an event of source i with the number a stands in a slot from n on
 abbrev pub IsAhead : (i places : ℕ) → Queue → (a n : ℕ) → Type 0
-IsAhead i places q a n = (j : ℕ) × (j < length q.held) × ((event_at q.held j).source ≡ i) × ((event_at q.held j).count ≡ a % 64) × (n ≤ (q.released + j) % places)
+IsAhead i places q a n = (j : ℕ) × (j < length q.held) × IsNumber i a (event_at q.held j) × (n ≤ (q.released + j) % places)
 
 -- the source's event with the number a stands in a slot from this one on, or is acknowledged
 abbrev pub IsShown : (i places : ℕ) → Near → (a slot : ℕ) → Type 0
-IsShown i places n a slot = IsAhead i places n.queue a slot ⊎ (n.ack ≡ suc a % 64)
+IsShown i places n a slot = IsAhead i places n.queue a slot ⊎ (n.ack ≡ (a + 1) % 64)
 
 -- in the boot, before the load of a slot: the source's event with number a was seen, is still to be seen, or isn't there
 pub record Boots (i places : ℕ) (n : Near) (a k slot : ℕ) (seen : Bool) : Type 0 where
   pub word : n.src ≡ src_word a k
   pub small : a < 2 ^ 32
-  pub seen_one : seen ≡ true → n.source.accepted ≡ suc a
-  pub unseen_one : n.source.accepted ≡ suc a → (seen ≡ true) ⊎ IsShown i places n a slot
+  pub seen_one : seen ≡ true → n.source.accepted ≡ a + 1
+  pub unseen_one : n.source.accepted ≡ a + 1 → (seen ≡ true) ⊎ IsShown i places n a slot
 
 -- SRC and the registers count all that was accepted and settled
 pub record IsReady (src : ℕ) (s : Source) (a k : ℕ) : Type 0 where
@@ -31,8 +31,8 @@ pub record IsReady (src : ℕ) (s : Source) (a k : ℕ) : Type 0 where
 -- SRC and the registers lack the last one
 pub record IsLate (src : ℕ) (s : Source) (a k : ℕ) : Type 0 where
   pub word : src ≡ src_word a k
-  pub accepted : s.accepted ≡ suc a
-  pub next : s.next ≡ suc k
+  pub accepted : s.accepted ≡ a + 1
+  pub next : s.next ≡ k + 1
 
 -- what source i knows in each row, with the accepted number a and the next reading k
 abbrev pub KnowsAt : (i places readings : ℕ) → Near → (a k : ℕ) → Stage → Type 0

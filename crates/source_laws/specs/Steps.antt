@@ -2,14 +2,14 @@
 use Rattle.std.specs.Prelude.{◌≡◌, ◌⊎◌, ℕ, suc, ◌+◌, ◌%◌, ◌<◌, true, length, Option, Some, None}
 use Rattle.fram_words.specs.Changes.{Becomes}
 use Rattle.fram_words.specs.Accesses.{Makes}
-use Rattle.source_laws.specs.Slots.{empty}
+use Rattle.push_core.specs.Slots.{empty_word}
+use Rattle.push_core.specs.Queue.{open_queue, open_source, event_at, event_source, event_count, KeepsNumbers}
 use Rattle.fram_words.specs.Places.{Place, Tail, Ack, Src, IsShared}
 use Rattle.fram_words.specs.Places as places
-use Rattle.source_laws.specs.Model.{places_of, Board, Model, open_queue, open_source, Entry, Finish, Release, IsLegal, Follows}
-use Rattle.source_laws.specs.Stands.{StandsSource, event_at}
+use Rattle.source_laws.specs.Model.{Board, Model, Entry, Finish, Release, IsLegal, Follows}
 use Rattle.push_core.specs.Table.{IsLeft, first_row}
 use Rattle.source_laws.specs.Rows.{access, take, entry, found}
-use Rattle.source_laws.specs.Kept.{State, QueueKept, EventsKept, IsOrdered, near}
+use Rattle.source_laws.specs.Kept.{State, QueueKept, EventsKept, IsOrdered}
 
 -- the entry, if there is one, may be made
 abbrev pub MayAdd : Board → Option Entry → Model → Type 0
@@ -39,16 +39,16 @@ pub data Step (board : Board) (x y : State) : Type 0 where
   -- a commit finishes the first event of queue t; it stores a private word
   Commit : (t : ℕ) → IsLegal board x.model (Finish t) → ((p : Place) → IsShared p → y.word p ≡ x.word p) → Follows board (Finish t) x.model y.model → y.row ≡ x.row → Step board x y
   -- the kernel stores ACK of the finished event's source
-  Acknowledge : (t : ℕ) → HasFinished t x.model → Becomes (Ack (event_at (x.model.queue t).held 0).source) (suc (event_at (x.model.queue t).held 0).count % 64) x.word y.word → y.model ≡ x.model → y.row ≡ x.row → Step board x y
+  Acknowledge : (t : ℕ) → HasFinished t x.model → Becomes (Ack (event_source (event_at (x.model.queue t).held 0))) ((event_count (event_at (x.model.queue t).held 0) + 1) % 64) x.word y.word → y.model ≡ x.model → y.row ≡ x.row → Step board x y
   -- and then the empty slot
-  Empties : (t : ℕ) → HasFinished t x.model → x.word (Ack (event_at (x.model.queue t).held 0).source) ≡ suc (event_at (x.model.queue t).held 0).count % 64
-      → Becomes (places.Slot t ((x.model.queue t).released % places_of board t)) (empty ((x.model.queue t).released + places_of board t)) x.word y.word → Follows board (Release t) x.model y.model → y.row ≡ x.row → Step board x y
+  Empties : (t : ℕ) → HasFinished t x.model → x.word (Ack (event_source (event_at (x.model.queue t).held 0))) ≡ (event_count (event_at (x.model.queue t).held 0) + 1) % 64
+      → Becomes (places.Slot t ((x.model.queue t).released % board.places t)) (empty_word ((x.model.queue t).released + board.places t)) x.word y.word → Follows board (Release t) x.model y.model → y.row ≡ x.row → Step board x y
   -- any other access of the kernel or the clock, or a cut, after which each source begins at its first row
   Apart : ((p : Place) → IsShared p → y.word p ≡ x.word p) → y.model ≡ x.model → ((i : ℕ) → (y.row i ≡ x.row i) ⊎ (y.row i ≡ first_row)) → Step board x y
 
 -- the first image, nothing accepted, and each source at its first row
 pub record IsFirst (board : Board) (x : State) : Type 0 where
-  pub slots : (t n : ℕ) → n < places_of board t → x.word (places.Slot t n) ≡ empty n
+  pub slots : (t n : ℕ) → n < board.places t → x.word (places.Slot t n) ≡ empty_word n
   pub tails : (t : ℕ) → x.word (Tail t) ≡ 0
   pub acks : (i : ℕ) → x.word (Ack i) ≡ 0
   pub srcs : (i : ℕ) → x.word (Src i) ≡ 0
@@ -61,7 +61,7 @@ pub record IsFirst (board : Board) (x : State) : Type 0 where
 pub record IsStart (board : Board) (x : State) : Type 0 where
   pub queues : (t : ℕ) → QueueKept board x t
   pub events : (t : ℕ) → EventsKept board x.model.queue x.model.source t
-  pub stands : (i : ℕ) → StandsSource i (near board x i)
+  pub stands : (i : ℕ) → KeepsNumbers i (x.word (Src i)) (x.word (Ack i)) (x.model.queue (board.queue_of i)) (x.model.source i)
   pub ordered : (i : ℕ) → IsOrdered (length (board.readings i)) (x.model.source i)
   pub rows : (i : ℕ) → x.row i ≡ first_row
 
