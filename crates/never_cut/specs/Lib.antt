@@ -16,6 +16,10 @@ pub mod Laws
 pub mod Start
 pub mod Ranges
 pub mod Wanted
+pub mod ReadOff
+pub mod Image
+pub mod Worn
+pub mod Images
 pub mod Reached
 pub mod Cost
 pub mod Bounds

@@ -36,19 +36,29 @@ abbrev pub due_word : Option ℕ → ℕ
 due_word None = 0
 due_word (Some due) = due + 1
 
+-- the thread writes the pipe; it reads it; the timer is its own
+abbrev pub is_writer : Program → (t q : ℕ) → Bool
+is_writer program t q = nat_lt q (length program.pipes) && ((pipe_def program q).writer.0 == t)
+
+abbrev pub is_reader : Program → (t q : ℕ) → Bool
+is_reader program t q = nat_lt q (length program.pipes) && ((pipe_def program q).reader.0 == t)
+
+abbrev pub is_owner : Program → (t j : ℕ) → Bool
+is_owner program t j = nat_lt j (length program.timers) && ((timer_def program j).thread.0 == t)
+
 -- the items that were sent to a pipe, in the block of its writer, and those that were taken, in that of its reader
 abbrev pub written_word : Program → Model → ℕ → ℕ → ℕ
-written_word program m t q = if nat_lt q (length program.pipes) && ((pipe_def program q).writer.0 == t) then (pipe_of m q).taken + length (pipe_of m q).items else 0
+written_word program m t q = if is_writer program t q then (pipe_of m q).taken + length (pipe_of m q).items else 0
 
 abbrev pub taken_word : Program → Model → ℕ → ℕ → ℕ
-taken_word program m t q = if nat_lt q (length program.pipes) && ((pipe_def program q).reader.0 == t) then (pipe_of m q).taken else 0
+taken_word program m t q = if is_reader program t q then (pipe_of m q).taken else 0
 
 -- a timer's word and its period, in the block of its thread
 abbrev pub timer_word : Program → Model → ℕ → ℕ → ℕ
-timer_word program m t j = if nat_lt j (length program.timers) && ((timer_def program j).thread.0 == t) then due_word (timer_of m j).due else 0
+timer_word program m t j = if is_owner program t j then due_word (timer_of m j).due else 0
 
 abbrev pub period_word : Program → Model → ℕ → ℕ → ℕ
-period_word program m t j = if nat_lt j (length program.timers) && ((timer_def program j).thread.0 == t) then (timer_of m j).period else 0
+period_word program m t j = if is_owner program t j then (timer_of m j).period else 0
 
 -- what a thread's own words say of it: nothing that another thread or a source changes
 pub record Saved : Type 0 where

@@ -1,0 +1,167 @@
+-- Words that a run can begin at: seven checks, in the order in which they are made. Each is told of one place after the other, the one that a reader names
+-- where the check fails there.
+use Rattle.std.specs.Prelude.{◌≡◌, ◌≢◌, ◌⊎◌, ℕ, ◌+◌, ◌-◌, ◌*◌, ◌/◌, ◌%◌, ◌^◌, ◌<◌, ◌≤◌, ◌==◌, true, false, List, length, take, count_by}
+use Rattle.ink_base.specs.declared.event.Event.{Event}
+use Rattle.ink_base.specs.declared.event.Origin.{Origin}
+use Rattle.ink_base.specs.declared.event.Origin.TheVariants as origins
+use Rattle.task_isa.specs.declared.program.Program.{Program}
+use Rattle.task_isa.specs.Code.{word_of_instr}
+use Rattle.fram_words.specs.Places.{Memory, Code, Commit, Log, Ring, Tail, Slot, Ack, Clock, Src}
+use Rattle.thread_state.specs.Pages.{committed}
+use Rattle.push_core.specs.Slots.{empty_word}
+use Rattle.push_core.specs.Queue.{Queue, published, event_at, event_source, event_count, IsFinishing}
+use Rattle.prog_check.specs.Lookup.{thread_def, pipe_def, task_def, instr_at, source_thread}
+use Rattle.ink_layout.specs.Shape.{pages_of}
+use Rattle.never_cut.specs.Stands.{origin_word, is_writer, is_reader, is_owner}
+use Rattle.never_cut.specs.Ranges.{IsOwnOrigin, IsTaskOf}
+use Rattle.never_cut.specs.ReadOff.{queue_in, finished_in, held_in, released_in, source_in}
+
+-- 1. Code. At each code word: it is the program's.
+abbrev pub IsCodeWord : Program → Memory → (x n : ℕ) → Type 0
+IsCodeWord program words x n = words (Code x n) ≡ word_of_instr (instr_at (task_def program x) n)
+
+-- 2. Commit words. At each: no bit at or above the number of the thread's pages.
+abbrev pub IsCommitWord : Program → Memory → (t : ℕ) → Type 0
+IsCommitWord program words t = words (Commit t) < 2 ^ pages_of (thread_def program t)
+
+-- the event that a running chain may have: of a source of the thread, of a pipe that it reads, the item that was taken last, or of a timer of its own
+abbrev pub IsChainOrigin : Program → Memory → (t : ℕ) → Origin → Type 0
+IsChainOrigin program words t (origins.Source source count) = IsOwnOrigin program t (origins.Source source count)
+IsChainOrigin program words t (origins.Pipe pipe item) = IsOwnOrigin program t (origins.Pipe pipe item) × (item + 1 ≡ committed words t (18 + pipe.0))
+IsChainOrigin program words t (origins.Timer timer deadline) = IsOwnOrigin program t (origins.Timer timer deadline)
+
+-- the value of such an event: 32 bits, and for a timer the low ones of its deadline
+abbrev pub IsChainValue : Origin → (value : ℕ) → Type 0
+IsChainValue (origins.Source source count) value = value < 2 ^ 32
+IsChainValue (origins.Pipe pipe item) value = value < 2 ^ 32
+IsChainValue (origins.Timer timer deadline) value = value ≡ deadline % 2 ^ 32
+
+-- 3. Blocks. At word w of a thread's committed copy: the next task is the thread's, the chain began by now, its event is one that it may have, the outputs fit
+-- the log, counts of pipes and words of timers that aren't the thread's are 0, timers and state numbers fit their bits, and what isn't used is 0.
+pub record IsBlockWord (program : Program) (words : Memory) (t w : ℕ) : Type 0 where
+  pub next : w ≡ 1 → committed words t 1 ≢ 0 → IsTaskOf program t (committed words t 1 - 1)
+  pub first : w ≡ 2 → committed words t 2 ≤ words Clock
+  pub origin : w ≡ 3 → committed words t 1 ≢ 0 → (o : Origin) × (committed words t 3 ≡ origin_word o) × IsChainOrigin program words t o
+  pub value : w ≡ 4 → committed words t 1 ≢ 0 → (o : Origin) → committed words t 3 ≡ origin_word o → IsOwnOrigin program t o → IsChainValue o (committed words t 4)
+  pub outputs : w ≡ 9 → committed words t 9 ≤ (thread_def program t).log
+  pub written : (q : ℕ) → q < 8 → w ≡ 10 + q → is_writer program t q ≡ false → committed words t (10 + q) ≡ 0
+  pub taken : (q : ℕ) → q < 8 → w ≡ 18 + q → is_reader program t q ≡ false → committed words t (18 + q) ≡ 0
+  pub due : (j : ℕ) → j < 8 → w ≡ 26 + 2 * j → committed words t (26 + 2 * j) ≤ 2 ^ 48
+  pub period : (j : ℕ) → j < 8 → w ≡ 27 + 2 * j → committed words t (27 + 2 * j) < 2 ^ 32
+  pub foreign_due : (j : ℕ) → j < 8 → w ≡ 26 + 2 * j → is_owner program t j ≡ false → committed words t (26 + 2 * j) ≡ 0
+  pub foreign_period : (j : ℕ) → j < 8 → w ≡ 27 + 2 * j → is_owner program t j ≡ false → committed words t (27 + 2 * j) ≡ 0
+  pub unused : 42 ≤ w → w < 48 → committed words t w ≡ 0
+  pub state : 48 ≤ w → committed words t w < 2 ^ 32
+  pub rest : 48 + (thread_def program t).state ≤ w → committed words t w ≡ 0
+
+-- the counts of a pipe in the blocks of its reader and its writer
+abbrev pub taken_of : Program → Memory → (q : ℕ) → ℕ
+taken_of program words q = committed words (pipe_def program q).reader.0 (18 + q)
+
+abbrev pub written_of : Program → Memory → (q : ℕ) → ℕ
+written_of program words q = committed words (pipe_def program q).writer.0 (10 + q)
+
+-- 4. Pipes. At the writer's count: no fewer items than were taken, and no more behind those than the pipe has places.
+pub record IsPipeCount (program : Program) (words : Memory) (q : ℕ) : Type 0 where
+  pub ordered : taken_of program words q ≤ written_of program words q
+  pub room : written_of program words q ≤ taken_of program words q + (pipe_def program q).places
+
+-- And at the ring word of each item that wasn't taken: it has 32 bits.
+abbrev pub IsItemWord : Program → Memory → (q n : ℕ) → Type 0
+IsItemWord program words q n =
+    taken_of program words q ≤ n → n < written_of program words q → words (Ring q (n % (pipe_def program q).places)) < 2 ^ 32
+
+-- the stamp of an output's word
+abbrev pub stamp_at : Memory → (t n : ℕ) → ℕ
+stamp_at words t n = words (Log t n) / 2 ^ 32
+
+-- 5. Logs. At each word that has an output: its stamp is from 1 to the thread's own, isn't less than the one before it, and stands in no earlier thread's log.
+pub record IsLogWord (program : Program) (words : Memory) (t n : ℕ) : Type 0 where
+  pub least : 1 ≤ stamp_at words t n
+  pub most : stamp_at words t n ≤ committed words t 0
+  pub ordered : (k : ℕ) → k + 1 ≡ n → stamp_at words t k ≤ stamp_at words t n
+  pub own : (u k : ℕ) → u < t → k < committed words u 9 → stamp_at words u k ≢ stamp_at words t n
+
+-- 6. Queues. At the slot of position r + k, from the position r of the first held event on: behind the held events it has the empty word of its position.
+pub record IsSlotWord (program : Program) (words : Memory) (t k : ℕ) : Type 0 where
+  pub empty : length (held_in program words t) ≤ k →
+      words (Slot t ((released_in program words t + k) % (thread_def program t).queue)) ≡ empty_word (released_in program words t + k)
+  pub fits : length (held_in program words t) ≤ k → released_in program words t + k < 2 ^ 21
+
+-- At TAIL: it is the number of published events, or one behind.
+abbrev pub IsTailWord : Program → Memory → (t : ℕ) → Type 0
+IsTailWord program words t = (words (Tail t) ≡ published (queue_in program words t)) ⊎ (words (Tail t) + 1 ≡ published (queue_in program words t))
+
+-- At h5: no earlier thread has a finished event beside this one's.
+abbrev pub IsOnlyFinished : Program → Memory → (t : ℕ) → Type 0
+IsOnlyFinished program words t = finished_in program words t ≡ true → (u : ℕ) → u < t → finished_in program words u ≡ false
+
+-- At h1: a thread with a finished event is idle.
+abbrev pub IsIdleFinished : Program → Memory → (t : ℕ) → Type 0
+IsIdleFinished program words t = finished_in program words t ≡ true → committed words t 1 ≡ 0
+
+-- the event of a source is the first of these; of another event nothing is asked
+abbrev pub IsServedFirst : List Event → Origin → (value : ℕ) → Type 0
+IsServedFirst held (origins.Source source count) value =
+    (0 < length held) × (event_at held 0 ≡ record { origin = origins.Source source count; value = value })
+IsServedFirst held (origins.Pipe pipe item) value = Unit {0}
+IsServedFirst held (origins.Timer timer deadline) value = Unit {0}
+
+-- At h3: a running chain of a source's event has the first held one.
+abbrev pub IsFirstServed : Program → Memory → (t : ℕ) → Type 0
+IsFirstServed program words t =
+    committed words t 1 ≢ 0 → (o : Origin) → committed words t 3 ≡ origin_word o → IsOwnOrigin program t o → IsServedFirst (held_in program words t) o (committed words t 4)
+
+-- 7. Sources. At SRC: no more readings are accepted than settled.
+abbrev pub IsSrcWord : Memory → (i : ℕ) → Type 0
+IsSrcWord words i = words (Src i) % 2 ^ 32 ≤ words (Src i) / 2 ^ 32
+
+-- how many of these events are of source i
+abbrev pub own_events : (i : ℕ) → List Event → ℕ
+own_events i held = count_by (λ (e : Event). event_source e == i) held
+
+-- the events that the queue of a source holds
+abbrev pub held_for : Program → Memory → (i : ℕ) → List Event
+held_for program words i = held_in program words (source_thread program i)
+
+-- At the slot of the j-th held event, where it is of the source: no more events of it are held than it has accepted, and its count is what is left of the
+-- accepted number, and one more for each of them before it, modulo 64.
+abbrev pub IsCountWord : Program → Memory → (i j : ℕ) → Type 0
+IsCountWord program words i j =
+    event_source (event_at (held_for program words i) j) ≡ i →
+    (own_events i (held_for program words i) ≤ (source_in program words i).accepted)
+    × (event_count (event_at (held_for program words i) j)
+    ≡ ((source_in program words i).accepted - own_events i (held_for program words i) + own_events i (take j (held_for program words i))) % 64)
+
+-- At ACK: it is the accepted number without those that are held, modulo 64, or one more where the first of them is finished.
+abbrev pub IsAckWord : Program → Memory → (i : ℕ) → Type 0
+IsAckWord program words i =
+    let gone : ℕ = (source_in program words i).accepted - own_events i (held_for program words i) in
+    (words (Ack i) ≡ gone % 64) ⊎ (IsFinishing i (queue_in program words (source_thread program i)) × (words (Ack i) ≡ (gone + 1) % 64))
+
+-- the checks of a pipe, of a thread's queue and of a source
+pub record IsPipeRight (program : Program) (words : Memory) (q : ℕ) : Type 0 where
+  pub counts : IsPipeCount program words q
+  pub items : (n : ℕ) → IsItemWord program words q n
+
+pub record IsQueueRight (program : Program) (words : Memory) (t : ℕ) : Type 0 where
+  pub slots : (k : ℕ) → k < (thread_def program t).queue → IsSlotWord program words t k
+  pub tail : IsTailWord program words t
+  pub only : IsOnlyFinished program words t
+  pub idle : IsIdleFinished program words t
+  pub served : IsFirstServed program words t
+
+pub record IsSourceRight (program : Program) (words : Memory) (i : ℕ) : Type 0 where
+  pub src : IsSrcWord words i
+  pub counts : (j : ℕ) → j < length (held_for program words i) → IsCountWord program words i j
+  pub ack : IsAckWord program words i
+
+-- The words of an image of the program: the seven checks hold at every place.
+pub record IsImage (program : Program) (words : Memory) : Type 0 where
+  pub code : (x n : ℕ) → x < length program.tasks → n < length (task_def program x).code → IsCodeWord program words x n
+  pub commit_words : (t : ℕ) → t < length program.threads → IsCommitWord program words t
+  pub blocks : (t w : ℕ) → t < length program.threads → w < 8 * pages_of (thread_def program t) → IsBlockWord program words t w
+  pub pipes : (q : ℕ) → q < length program.pipes → IsPipeRight program words q
+  pub logs : (t n : ℕ) → t < length program.threads → n < committed words t 9 → IsLogWord program words t n
+  pub queues : (t : ℕ) → t < length program.threads → IsQueueRight program words t
+  pub sources : (i : ℕ) → i < length program.sources → IsSourceRight program words i
