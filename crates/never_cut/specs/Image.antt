@@ -7,12 +7,14 @@ use Rattle.ink_base.specs.declared.event.Origin.TheVariants as origins
 use Rattle.task_isa.specs.declared.program.Program.{Program}
 use Rattle.task_isa.specs.Code.{word_of_instr}
 use Rattle.fram_words.specs.Places.{Memory, Code, Commit, Log, Ring, Tail, Slot, Ack, Clock, Src}
+use Rattle.fram_words.specs.Header as header
+use Rattle.fram_words.specs.Held.{origin_word, origin_of, output_of, src_of}
 use Rattle.thread_state.specs.Pages.{committed}
 use Rattle.push_core.specs.Slots.{empty_word}
 use Rattle.push_core.specs.Queue.{Queue, published, event_at, event_source, event_count, IsFinishing}
 use Rattle.prog_check.specs.Lookup.{thread_def, pipe_def, task_def, instr_at, source_thread}
 use Rattle.ink_layout.specs.Shape.{pages_of}
-use Rattle.never_cut.specs.Stands.{origin_word, is_writer, is_reader, is_owner}
+use Rattle.never_cut.specs.Stands.{writes_pipe, reads_pipe, owns_timer}
 use Rattle.never_cut.specs.Ranges.{IsOwnOrigin, IsTaskOf}
 use Rattle.never_cut.specs.ReadOff.{queue_in, finished_in, held_in, released_in, source_in}
 
@@ -25,10 +27,13 @@ abbrev pub IsCommitWord : Program → Memory → (t : ℕ) → Type 0
 IsCommitWord program words t = words (Commit t) < 2 ^ pages_of (thread_def program t)
 
 -- the event that a running chain may have: of a source of the thread, of a pipe that it reads, the item that was taken last, or of a timer of its own
+abbrev pub IsTakenLast : Memory → (t : ℕ) → Origin → Type 0
+IsTakenLast words t (origins.Source source count) = Unit {0}
+IsTakenLast words t (origins.Pipe pipe item) = item + 1 ≡ committed words t (header.taken pipe.0)
+IsTakenLast words t (origins.Timer timer deadline) = Unit {0}
+
 abbrev pub IsChainOrigin : Program → Memory → (t : ℕ) → Origin → Type 0
-IsChainOrigin program words t (origins.Source source count) = IsOwnOrigin program t (origins.Source source count)
-IsChainOrigin program words t (origins.Pipe pipe item) = IsOwnOrigin program t (origins.Pipe pipe item) × (item + 1 ≡ committed words t (18 + pipe.0))
-IsChainOrigin program words t (origins.Timer timer deadline) = IsOwnOrigin program t (origins.Timer timer deadline)
+IsChainOrigin program words t o = IsOwnOrigin program t o × IsTakenLast words t o
 
 -- the value of such an event: 32 bits, and for a timer the low ones of its deadline
 abbrev pub IsChainValue : Origin → (value : ℕ) → Type 0
@@ -36,30 +41,34 @@ IsChainValue (origins.Source source count) value = value < 2 ^ 32
 IsChainValue (origins.Pipe pipe item) value = value < 2 ^ 32
 IsChainValue (origins.Timer timer deadline) value = value ≡ deadline % 2 ^ 32
 
+-- a chain of the thread runs
+abbrev pub HasChain : Memory → (t : ℕ) → Type 0
+HasChain words t = committed words t header.next ≢ 0
+
 -- 3. Blocks. At word w of a thread's committed copy: the next task is the thread's, the chain began by now, its event is one that it may have, the outputs fit
 -- the log, counts of pipes and words of timers that aren't the thread's are 0, timers and state numbers fit their bits, and what isn't used is 0.
 pub record IsBlockWord (program : Program) (words : Memory) (t w : ℕ) : Type 0 where
-  pub next : w ≡ 1 → committed words t 1 ≢ 0 → IsTaskOf program t (committed words t 1 - 1)
-  pub first : w ≡ 2 → committed words t 2 ≤ words Clock
-  pub origin : w ≡ 3 → committed words t 1 ≢ 0 → (o : Origin) × (committed words t 3 ≡ origin_word o) × IsChainOrigin program words t o
-  pub value : w ≡ 4 → committed words t 1 ≢ 0 → (o : Origin) → committed words t 3 ≡ origin_word o → IsOwnOrigin program t o → IsChainValue o (committed words t 4)
-  pub outputs : w ≡ 9 → committed words t 9 ≤ (thread_def program t).log
-  pub written : (q : ℕ) → q < 8 → w ≡ 10 + q → is_writer program t q ≡ false → committed words t (10 + q) ≡ 0
-  pub taken : (q : ℕ) → q < 8 → w ≡ 18 + q → is_reader program t q ≡ false → committed words t (18 + q) ≡ 0
-  pub due : (j : ℕ) → j < 8 → w ≡ 26 + 2 * j → committed words t (26 + 2 * j) ≤ 2 ^ 48
-  pub period : (j : ℕ) → j < 8 → w ≡ 27 + 2 * j → committed words t (27 + 2 * j) < 2 ^ 32
-  pub foreign_due : (j : ℕ) → j < 8 → w ≡ 26 + 2 * j → is_owner program t j ≡ false → committed words t (26 + 2 * j) ≡ 0
-  pub foreign_period : (j : ℕ) → j < 8 → w ≡ 27 + 2 * j → is_owner program t j ≡ false → committed words t (27 + 2 * j) ≡ 0
-  pub unused : 42 ≤ w → w < 48 → committed words t w ≡ 0
-  pub state : 48 ≤ w → committed words t w < 2 ^ 32
-  pub rest : 48 + (thread_def program t).state ≤ w → committed words t w ≡ 0
+  pub next : w ≡ header.next → HasChain words t → IsTaskOf program t (committed words t header.next - 1)
+  pub first : w ≡ header.first → committed words t header.first ≤ words Clock
+  pub origin : w ≡ header.origin → HasChain words t → (o : Origin) × (committed words t header.origin ≡ origin_word o) × IsChainOrigin program words t o
+  pub value : w ≡ header.value → HasChain words t → IsChainValue (origin_of (committed words t header.origin)) (committed words t header.value)
+  pub outputs : w ≡ header.outputs → committed words t header.outputs ≤ (thread_def program t).log
+  pub written : (q : ℕ) → q < 8 → w ≡ header.written q → writes_pipe program t q ≡ false → committed words t (header.written q) ≡ 0
+  pub taken : (q : ℕ) → q < 8 → w ≡ header.taken q → reads_pipe program t q ≡ false → committed words t (header.taken q) ≡ 0
+  pub due : (j : ℕ) → j < 8 → w ≡ header.due j → committed words t (header.due j) ≤ 2 ^ 48
+  pub period : (j : ℕ) → j < 8 → w ≡ header.period j → committed words t (header.period j) < 2 ^ 32
+  pub foreign_due : (j : ℕ) → j < 8 → w ≡ header.due j → owns_timer program t j ≡ false → committed words t (header.due j) ≡ 0
+  pub foreign_period : (j : ℕ) → j < 8 → w ≡ header.period j → owns_timer program t j ≡ false → committed words t (header.period j) ≡ 0
+  pub unused : header.due 8 ≤ w → w < header.words → committed words t w ≡ 0
+  pub state : header.words ≤ w → committed words t w < 2 ^ 32
+  pub rest : header.state (thread_def program t).state ≤ w → committed words t w ≡ 0
 
 -- the counts of a pipe in the blocks of its reader and its writer
 abbrev pub taken_of : Program → Memory → (q : ℕ) → ℕ
-taken_of program words q = committed words (pipe_def program q).reader.0 (18 + q)
+taken_of program words q = committed words (pipe_def program q).reader.0 (header.taken q)
 
 abbrev pub written_of : Program → Memory → (q : ℕ) → ℕ
-written_of program words q = committed words (pipe_def program q).writer.0 (10 + q)
+written_of program words q = committed words (pipe_def program q).writer.0 (header.written q)
 
 -- 4. Pipes. At the writer's count: no fewer items than were taken, and no more behind those than the pipe has places.
 pub record IsPipeCount (program : Program) (words : Memory) (q : ℕ) : Type 0 where
@@ -73,14 +82,14 @@ IsItemWord program words q n =
 
 -- the stamp of an output's word
 abbrev pub stamp_at : Memory → (t n : ℕ) → ℕ
-stamp_at words t n = words (Log t n) / 2 ^ 32
+stamp_at words t n = (output_of (record { 0 = t }) (words (Log t n))).stamp
 
 -- 5. Logs. At each word that has an output: its stamp is from 1 to the thread's own, isn't less than the one before it, and stands in no earlier thread's log.
 pub record IsLogWord (program : Program) (words : Memory) (t n : ℕ) : Type 0 where
   pub least : 1 ≤ stamp_at words t n
-  pub most : stamp_at words t n ≤ committed words t 0
+  pub most : stamp_at words t n ≤ committed words t header.stamp
   pub ordered : (k : ℕ) → k + 1 ≡ n → stamp_at words t k ≤ stamp_at words t n
-  pub own : (u k : ℕ) → u < t → k < committed words u 9 → stamp_at words u k ≢ stamp_at words t n
+  pub own : (u k : ℕ) → u < t → k < committed words u header.outputs → stamp_at words u k ≢ stamp_at words t n
 
 -- 6. Queues. At the slot of position r + k, from the position r of the first held event on: behind the held events it has the empty word of its position.
 pub record IsSlotWord (program : Program) (words : Memory) (t k : ℕ) : Type 0 where
@@ -98,7 +107,7 @@ IsOnlyFinished program words t = finished_in program words t ≡ true → (u : �
 
 -- At h1: a thread with a finished event is idle.
 abbrev pub IsIdleFinished : Program → Memory → (t : ℕ) → Type 0
-IsIdleFinished program words t = finished_in program words t ≡ true → committed words t 1 ≡ 0
+IsIdleFinished program words t = finished_in program words t ≡ true → committed words t header.next ≡ 0
 
 -- the event of a source is the first of these; of another event nothing is asked
 abbrev pub IsServedFirst : List Event → Origin → (value : ℕ) → Type 0
@@ -110,11 +119,11 @@ IsServedFirst held (origins.Timer timer deadline) value = Unit {0}
 -- At h3: a running chain of a source's event has the first held one.
 abbrev pub IsFirstServed : Program → Memory → (t : ℕ) → Type 0
 IsFirstServed program words t =
-    committed words t 1 ≢ 0 → (o : Origin) → committed words t 3 ≡ origin_word o → IsOwnOrigin program t o → IsServedFirst (held_in program words t) o (committed words t 4)
+    HasChain words t → IsServedFirst (held_in program words t) (origin_of (committed words t header.origin)) (committed words t header.value)
 
 -- 7. Sources. At SRC: no more readings are accepted than settled.
 abbrev pub IsSrcWord : Memory → (i : ℕ) → Type 0
-IsSrcWord words i = words (Src i) % 2 ^ 32 ≤ words (Src i) / 2 ^ 32
+IsSrcWord words i = (src_of (words (Src i))).accepted ≤ (src_of (words (Src i))).next
 
 -- how many of these events are of source i
 abbrev pub own_events : (i : ℕ) → List Event → ℕ
@@ -162,6 +171,6 @@ pub record IsImage (program : Program) (words : Memory) : Type 0 where
   pub commit_words : (t : ℕ) → t < length program.threads → IsCommitWord program words t
   pub blocks : (t w : ℕ) → t < length program.threads → w < 8 * pages_of (thread_def program t) → IsBlockWord program words t w
   pub pipes : (q : ℕ) → q < length program.pipes → IsPipeRight program words q
-  pub logs : (t n : ℕ) → t < length program.threads → n < committed words t 9 → IsLogWord program words t n
+  pub logs : (t n : ℕ) → t < length program.threads → n < committed words t header.outputs → IsLogWord program words t n
   pub queues : (t : ℕ) → t < length program.threads → IsQueueRight program words t
   pub sources : (i : ℕ) → i < length program.sources → IsSourceRight program words i

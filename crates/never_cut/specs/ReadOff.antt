@@ -1,5 +1,5 @@
 -- What the words of a board tell of its queues and sources, and the state that is read off them.
-use Rattle.std.specs.Prelude.{◌≡◌, ℕ, zero, suc, ◌+◌, ◌-◌, ◌/◌, ◌%◌, ◌^◌, ◌<◌, ◌==◌, ◌&&◌, ◌||◌, nat_lt, Bool, false, if◌then◌else◌, List, [], ◌∷◌, length, All, Option, Some, None}
+use Rattle.std.specs.Prelude.{◌≡◌, ℕ, zero, suc, ◌+◌, ◌-◌, ◌%◌, ◌^◌, ◌<◌, ◌==◌, ◌&&◌, ◌||◌, nat_lt, Bool, false, if◌then◌else◌, List, [], ◌∷◌, length, All, Option, Some, None}
 use Rattle.std.specs.List.{list_any}
 use Rattle.std.specs.List.Sorted.{IsNonDecreasingBy}
 use Rattle.std.specs.Option.{ForSome, ForNone}
@@ -8,6 +8,8 @@ use Rattle.ink_base.specs.declared.event.Origin.TheVariants as origins
 use Rattle.ink_base.specs.declared.output.Output.{Output}
 use Rattle.task_isa.specs.declared.program.Program.{Program}
 use Rattle.fram_words.specs.Places.{Memory, Slot, Ack, Clock, Src}
+use Rattle.fram_words.specs.Header as header
+use Rattle.fram_words.specs.Held.{src_of}
 use Rattle.thread_state.specs.Pages.{committed}
 use Rattle.push_core.specs.Slots.{slot_in}
 use Rattle.push_core.specs.Queue.{Queue, Source, event_source, event_count}
@@ -45,11 +47,11 @@ events_from program words t p (suc most) =
 
 -- the last event that was finished is still held: there is one, and its slot has a full word of its position
 abbrev pub finished_in : Program → Memory → (t : ℕ) → Bool
-finished_in program words t = nat_lt 0 (committed words t 5) && is_full_at (committed words t 5 - 1) (slot_of program words t (committed words t 5 - 1))
+finished_in program words t = nat_lt 0 (committed words t header.finished) && is_full_at (committed words t header.finished - 1) (slot_of program words t (committed words t header.finished - 1))
 
 -- so it isn't counted as released
 abbrev pub released_in : Program → Memory → (t : ℕ) → ℕ
-released_in program words t = committed words t 5 - flag (finished_in program words t)
+released_in program words t = committed words t header.finished - flag (finished_in program words t)
 
 -- the events that stand from there on are held
 abbrev pub held_in : Program → Memory → (t : ℕ) → List Event
@@ -66,14 +68,14 @@ is_number i number e = (event_source e == i) && (event_count e == number % 64)
 -- the event after those that SRC counts is held, or ACK counts it
 abbrev pub is_one_more : Program → Memory → (i : ℕ) → Bool
 is_one_more program words i =
-    list_any (is_number i (words (Src i) % 2 ^ 32)) (held_in program words (source_thread program i)) || (words (Ack i) == (words (Src i) % 2 ^ 32 + 1) % 64)
+    list_any (is_number i (src_of (words (Src i))).accepted) (held_in program words (source_thread program i)) || (words (Ack i) == ((src_of (words (Src i))).accepted + 1) % 64)
 
 -- the source, as the words tell it: as SRC says, or with one more accepted and settled
 abbrev pub source_in : Program → Memory → (i : ℕ) → Source
 source_in program words i =
     record {
-      next = words (Src i) / 2 ^ 32 + flag (is_one_more program words i);
-      accepted = words (Src i) % 2 ^ 32 + flag (is_one_more program words i);
+      next = (src_of (words (Src i))).next + flag (is_one_more program words i);
+      accepted = (src_of (words (Src i))).accepted + flag (is_one_more program words i);
       refused = false;
     }
 

@@ -2,6 +2,7 @@
 use Rattle.std.specs.Prelude.{ℕ, zero, suc, ◌+◌, ◌^◌, ◌<◌, ◌≤◌, ◌==◌, if◌then◌else◌, List, length, slice_index}
 use Rattle.task_isa.specs.declared.program.Program.{Program}
 use Rattle.fram_words.specs.Places.{Memory, Clock}
+use Rattle.fram_words.specs.Header as header
 use Rattle.thread_state.specs.Pages.{committed}
 use Rattle.push_core.specs.Table.{greatest_tail}
 use Rattle.push_core.specs.Queue.{published}
@@ -21,9 +22,9 @@ pub data IsWorn (program : Program) (listed : List ℕ) (words : Memory) : Type 
   -- the clock has gone half its way
   LateClock : 2 ^ 46 ≤ words Clock → IsWorn program listed words
   -- a stamp, and so the number of commits, has half of its range behind it
-  ManyCommits : (t : ℕ) → t < length program.threads → 2 ^ 31 ≤ committed words t 0 → IsWorn program listed words
+  ManyCommits : (t : ℕ) → t < length program.threads → 2 ^ 31 ≤ committed words t header.stamp → IsWorn program listed words
   -- a count of services that were served, trapped or expired
-  ManyServices : (t w : ℕ) → t < length program.threads → 6 ≤ w → w ≤ 8 → 2 ^ 31 ≤ committed words t w → IsWorn program listed words
+  ManyServices : (t w : ℕ) → t < length program.threads → header.served ≤ w → w ≤ header.expired → 2 ^ 31 ≤ committed words t w → IsWorn program listed words
   -- a count of items that were written to a pipe, or taken from it
   ManyWritten : (q : ℕ) → q < length program.pipes → 2 ^ 31 ≤ written_of program words q → IsWorn program listed words
   ManyTaken : (q : ℕ) → q < length program.pipes → 2 ^ 31 ≤ taken_of program words q → IsWorn program listed words

@@ -3,11 +3,11 @@
 #![tactic(auto)]
 
 mod chain;
+mod event;
 mod idle;
 mod laws;
 mod machine;
 mod order;
-mod origin;
 mod picks;
 mod pipes;
 mod places;

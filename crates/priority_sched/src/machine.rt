@@ -12,11 +12,11 @@ ghost use Rattle.never_cut.specs.Wanted.{IsSlotWanted};
 ghost use Rattle.priority_sched.specs.Reached.{scan_loaded, IsScanOf, IsResultOf};
 ghost use Rattle.priority_sched.specs.Scan.{scan_begun, scan_wants, scan_takes, scan_point, scan_result, scan_slot, IsScan, IsScanWord};
 
-use crate::origin::event_at;
+use crate::event::event_at;
 use crate::places::{item_of, writer_of};
 use crate::scan_at::ScanAt;
 use crate::scanned::Scanned;
-use fram_words::{Access, Place, Step};
+use fram_words::{Access, Header, Place, Step};
 use ink_base::ThreadId;
 use ink_layout::{KernelPoint, Plan, SlotAt, slot_of};
 use task_isa::Program;
@@ -79,13 +79,33 @@ impl ScanMachine {
         let thread = self.thread;
         match self.at {
             ScanAt::Commit => Place::Commit { thread },
-            ScanAt::Running { commit_word } => place_in(thread, commit_word, 1),
-            ScanAt::Finished { commit_word, .. } => place_in(thread, commit_word, 5),
-            ScanAt::Origin { chain } => place_in(thread, chain.commit_word, 3),
-            ScanAt::Value { chain, .. } => place_in(thread, chain.commit_word, 4),
-            ScanAt::First { chain, .. } => place_in(thread, chain.commit_word, 2),
+            ScanAt::Running { commit_word } => place_in(
+                thread,
+                commit_word,
+                Header::Next.word(),
+            ),
+            ScanAt::Finished { commit_word, .. } => place_in(
+                thread,
+                commit_word,
+                Header::Finished.word(),
+            ),
+            ScanAt::Origin { chain } => place_in(thread, chain.commit_word, Header::Origin.word()),
+            ScanAt::Value { chain, .. } => place_in(
+                thread,
+                chain.commit_word,
+                Header::Value.word(),
+            ),
+            ScanAt::First { chain, .. } => place_in(
+                thread,
+                chain.commit_word,
+                Header::First.word(),
+            ),
             ScanAt::Slot { position, .. } => slot_of(program, thread, position),
-            ScanAt::Taken { idle, pipe } => place_in(thread, idle.commit_word, 18 + pipe.0 as u32),
+            ScanAt::Taken { idle, pipe } => place_in(
+                thread,
+                idle.commit_word,
+                Header::Taken(pipe.0 as u32).word(),
+            ),
             ScanAt::Writer { waiting } => Place::Commit {
                 thread: writer_of(program, waiting.pipe),
             },
@@ -95,13 +115,13 @@ impl ScanMachine {
             } => place_in(
                 writer_of(program, waiting.pipe),
                 commit_word,
-                10 + waiting.pipe.0 as u32,
+                Header::Written(waiting.pipe.0 as u32).word(),
             ),
             ScanAt::Item { waiting } => item_of(program, waiting.pipe, waiting.taken),
             ScanAt::Timer { idle, timer } => place_in(
                 thread,
                 idle.commit_word,
-                26 + 2 * timer.0 as u32,
+                Header::Due(timer.0 as u32).word(),
             ),
             ScanAt::Clock | ScanAt::Picked { .. } | ScanAt::Quiet => Place::Clock,
         }

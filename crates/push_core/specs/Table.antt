@@ -3,6 +3,7 @@ use Rattle.std.specs.Prelude.{◌≡◌, ◌≢◌, ℕ, ◌+◌, ◌*◌, ◌/�
 use Rattle.ink_base.specs.declared.ids.SourceId.{SourceId}
 use Rattle.fram_words.specs.declared.access.Access.{Access}
 use Rattle.fram_words.specs.declared.access.Access.TheVariants.{Load, Store, Exchange}
+pub use Rattle.fram_words.specs.Held.{src_word}
 use Rattle.push_core.specs.Slots.{full_word, empty_word, slot_in}
 use Rattle.push_core.specs.declared.port.Port.{Port}
 use Rattle.push_core.specs.declared.row.Row.{Row}
@@ -14,10 +15,6 @@ use Rattle.push_core.specs.declared.point.Point.{Point}
 use Rattle.push_core.specs.declared.point.Point.TheVariants as points
 use Rattle.push_core.specs.declared.phase.Phase.{Phase}
 use Rattle.push_core.specs.declared.phase.Phase.TheVariants as phases
-
--- SRC: the next reading in bits 32 to 63, the accepted number in 0 to 31
-abbrev pub src_word : ℕ → ℕ → ℕ
-src_word accepted next = next * 2 ^ 32 + accepted
 
 -- the address of the slot of a position
 abbrev pub slot_at : Port → ℕ → ℕ

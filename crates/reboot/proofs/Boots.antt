@@ -10,6 +10,7 @@ use Rattle.ink_base.specs.declared.event.Origin.TheVariants as origins
 use Rattle.task_isa.specs.declared.program.Program.{Program}
 use Rattle.fram_words.specs.Places.{Memory, Load, store}
 use Rattle.fram_words.specs.Places as places
+use Rattle.fram_words.specs.Header as header
 use Rattle.fram_words.proofs.Frames.{store-same}
 use Rattle.thread_state.specs.Pages.{committed, place_in}
 use Rattle.push_core.specs.Slots.{slot_in, empty_word}
@@ -87,15 +88,15 @@ commit_step program readings words m thread stamp b h = record {
 stamp_step : (program : Program) (readings : Readings) (words : Memory) (m : Model) (thread : ThreadId) (stamp c : ℕ) → Background program readings words m →
     BootHolds program words m (boot_at thread stamp (Stamp c)) → BootStep program readings words m (boot_at thread stamp (Stamp c))
 stamp_step program readings words m thread stamp c b h =
-    let word : words (place_in thread.0 c 0) ≡ committed words thread.0 0 = ap (λ k. words (place_in thread.0 k 0)) h.knows in
-    let top : committed words thread.0 0 ≤ m.commits = b.private.stamps thread.0 h.known in
+    let word : words (place_in thread.0 c header.stamp) ≡ committed words thread.0 header.stamp = ap (λ k. words (place_in thread.0 k header.stamp)) h.knows in
+    let top : committed words thread.0 header.stamp ≤ m.commits = b.private.stamps thread.0 h.known in
     let below : stamp ≤ m.commits = h.below in
     record {
-      kept = load_kept program readings words m (place_in thread.0 c 0) b;
+      kept = load_kept program readings words m (place_in thread.0 c header.stamp) b;
       holds = record {
         known = h.known;
         passed = h.passed;
-        counted = λ u l. let old : committed words u 0 ≤ stamp = h.counted u l in omega arith;
+        counted = λ u l. let old : committed words u header.stamp ≤ stamp = h.counted u l in omega arith;
         below = omega arith;
         knows = (h.knows, omega arith);
       };
@@ -106,20 +107,20 @@ finished_step : (program : Program) (readings : Readings) (words : Memory) (m : 
     BootHolds program words m (boot_at thread stamp (Finished c)) → BootStep program readings words m (boot_at thread stamp (Finished c))
 finished_step program readings words m thread stamp c b h =
     let t : ℕ = thread.0 in
-    let word : words (place_in thread.0 c 5) ≡ finished_events m thread.0 =
-    ap (λ k. words (place_in thread.0 k 5)) h.knows.0 ∙ finished_word program words m thread.0 h.known b.private in
+    let word : words (place_in thread.0 c header.finished) ≡ finished_events m thread.0 =
+    ap (λ k. words (place_in thread.0 k header.finished)) h.knows.0 ∙ finished_word program words m thread.0 h.known b.private in
     record {
-      kept = load_kept program readings words m (place_in thread.0 c 5) b;
+      kept = load_kept program readings words m (place_in thread.0 c header.finished) b;
       holds =
-          elim (cases_Bool (words (place_in thread.0 c 5) == 0)) [
+          elim (cases_Bool (words (place_in thread.0 c header.finished) == 0)) [
             | inl e ↦
-                let none : words (place_in thread.0 c 5) ≡ 0 = eqb-true (words (place_in thread.0 c 5)) 0 e in
+                let none : words (place_in thread.0 c header.finished) ≡ 0 = eqb-true (words (place_in thread.0 c header.finished)) 0 e in
                 let clear : (thread_of m thread.0).finished ≡ false = flag_zero (thread_of m thread.0).finished (omega arith) in
                 rw e (goes_on program words m thread stamp h.known
                 (up_to (λ u. (thread_of m u).finished ≡ false) thread.0 h.passed clear)
                 (up_to (λ u. IsCounted words u stamp) thread.0 h.counted h.knows.1) h.below)
             | inr e ↦
-                let some : words (place_in thread.0 c 5) ≢ 0 = eqb-false (words (place_in thread.0 c 5)) 0 e in
+                let some : words (place_in thread.0 c header.finished) ≢ 0 = eqb-false (words (place_in thread.0 c header.finished)) 0 e in
                 rw e (record { known = h.known; passed = h.passed; counted = h.counted; below = h.below; knows = (omega arith, h.knows.1) })
           ];
     }

@@ -3,6 +3,7 @@ use Rattle.std.specs.Prelude.{◌≡◌, ℕ, ◌+◌, ◌%◌, ◌<◌, ◌≤�
 use Rattle.task_isa.specs.declared.program.Program.{Program}
 use Rattle.fram_words.specs.Places.{Memory, perform, answer}
 use Rattle.fram_words.specs.Places as places
+use Rattle.fram_words.specs.Header as header
 use Rattle.thread_state.specs.Pages.{committed}
 use Rattle.ink_layout.specs.Points.{entry_of_point}
 use Rattle.never_cut.specs.declared.model.Model.{Model}
@@ -23,7 +24,7 @@ finished_events m t = (thread_of m t).released + flag (thread_of m t).finished
 
 -- the thread's own stamp counts
 abbrev pub IsCounted : Memory → (t stamp : ℕ) → Type 0
-IsCounted words t stamp = committed words t 0 ≤ stamp
+IsCounted words t stamp = committed words t header.stamp ≤ stamp
 
 -- the finished event is the first held one: its position, source and count
 pub record KnowsEvent (m : Model) (t p i count : ℕ) : Type 0 where

@@ -12,7 +12,7 @@ ghost use Rattle.task_isa.specs.declared.program.Program.{Program};
 ghost use Rattle.reboot.specs.Boot.{boot_begun, boot_wants, boot_takes, boot_next, after_slot, boot_point, boot_stamp, boot_slot, IsBoot, IsBootWord, IsOfSource};
 
 use crate::boot_at::BootAt;
-use fram_words::{Access, Place, Step};
+use fram_words::{Access, Header, Place, Step};
 use ink_base::ThreadId;
 use ink_layout::{KernelPoint, Plan, SlotAt, slot_of};
 use push_core::{Slot, empty, read_slot};
@@ -72,8 +72,10 @@ impl BootMachine {
         let thread = self.thread;
         match self.at {
             BootAt::Commit | BootAt::Over => Step::Load(Place::Commit { thread }),
-            BootAt::Stamp { commit_word } => Step::Load(place_in(thread, commit_word, 0)),
-            BootAt::Finished { commit_word } => Step::Load(place_in(thread, commit_word, 5)),
+            BootAt::Stamp { commit_word } => Step::Load(place_in(thread, commit_word, Header::Stamp.word())),
+            BootAt::Finished { commit_word } => Step::Load(
+                place_in(thread, commit_word, Header::Finished.word()),
+            ),
             BootAt::Slot { position } => Step::Load(slot_of(program, thread, position)),
             BootAt::Ack { source, count, .. } => Step::Store(
                 Place::Ack { source },

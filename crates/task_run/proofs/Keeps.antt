@@ -3,6 +3,7 @@ use Rattle.std.proofs.Common.{◌≡◌, ℕ, ◌+◌, ◌*◌, ◌/◌, ◌^◌
 use Rattle.std.specs.Prelude.{if◌then◌else◌}
 use Rattle.std.proofs.lemmas.Bool.{false≢true, cases_Bool}
 use Rattle.fram_words.specs.Places.{Place, Code, Log, Memory, Load, Store}
+use Rattle.fram_words.specs.Held.{origin_word}
 use Rattle.event_pipe.specs.Ring.{ring_index}
 use Rattle.thread_state.specs.Pages.{Buffer, IsUnderWay, put_access}
 use Rattle.task_isa.specs.declared.program.Program.{Program}
@@ -11,7 +12,7 @@ use Rattle.prog_check.specs.Lookup.{pipe_def}
 use Rattle.ink_layout.specs.declared.pick.Pick.{Pick}
 use Rattle.never_cut.specs.declared.model.Model.{Model}
 use Rattle.never_cut.specs.Entries.{Readings}
-use Rattle.never_cut.specs.Stands.{Saved, saved, origin_word}
+use Rattle.never_cut.specs.Stands.{Saved, saved}
 use Rattle.never_cut.specs.Steps.{Background}
 use Rattle.persist_timer.specs.Due.{armed}
 use Rattle.task_run.specs.declared.ending.Ending.{Ending}

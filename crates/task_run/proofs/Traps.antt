@@ -8,6 +8,7 @@ use Rattle.ink_base.specs.declared.event.Origin.{Origin}
 use Rattle.ink_base.specs.declared.event.Origin.TheVariants as origins
 use Rattle.ink_base.specs.declared.ids.TaskId.{TaskId}
 use Rattle.fram_words.specs.Places.{Commit, Memory}
+use Rattle.fram_words.specs.Held.{origin_word}
 use Rattle.thread_state.specs.Pages.{no_writes}
 use Rattle.task_isa.specs.declared.program.Program.{Program}
 use Rattle.task_isa.specs.declared.sent.Sent.{Sent}
@@ -19,7 +20,7 @@ use Rattle.never_cut.specs.declared.model.Model.{Model}
 use Rattle.never_cut.specs.declared.scan_model.ScanModel.{ScanModel}
 use Rattle.never_cut.specs.State.{thread_of}
 use Rattle.never_cut.specs.Pending.{pending_in}
-use Rattle.never_cut.specs.Stands.{Saved, saved, origin_word, StandsPrivate, StandsThread}
+use Rattle.never_cut.specs.Stands.{Saved, saved, StandsPrivate, StandsThread}
 use Rattle.never_cut.specs.Sound.{HasShape}
 use Rattle.never_cut.specs.Picked.{IsPicked}
 use Rattle.task_run.specs.declared.ending.Ending.{Ending}

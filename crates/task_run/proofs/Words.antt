@@ -4,8 +4,9 @@ use Rattle.std.proofs.lemmas.Bool.{cases_eq, eq-eqb, ne_eqb}
 use Rattle.std.proofs.lemmas.List.{get_or-set_same, get_or-set_other, get_or-append-add, set-append_right}
 use Rattle.std.specs.Prelude.{Some}
 use Rattle.ink_base.specs.declared.output.Output.{Output}
+use Rattle.fram_words.specs.Held.{next_word}
 use Rattle.thread_state.specs.Pages.{put}
-use Rattle.never_cut.specs.Stands.{Saved, thread_words, next_word}
+use Rattle.never_cut.specs.Stands.{Saved, thread_words}
 use Rattle.task_run.specs.declared.ending.Ending.{Ending}
 use Rattle.task_run.specs.declared.ending.Ending.TheVariants as endings
 use Rattle.task_run.specs.Endings.{total_word}

@@ -4,6 +4,7 @@ use Rattle.ink_base.specs.declared.ids.TaskId.{TaskId}
 use Rattle.ink_base.specs.declared.event.Origin.{Origin}
 use Rattle.ink_base.specs.declared.event.Origin.TheVariants as origins
 use Rattle.fram_words.specs.Places.{Memory, Ring, Commit}
+use Rattle.fram_words.specs.Held.{origin_word, due_word, output_word}
 use Rattle.event_pipe.specs.Ring.{ring_index}
 use Rattle.persist_timer.specs.Due.{after_service, armed}
 use Rattle.thread_state.specs.Pages.{Buffer, Loading, Buffered, IsUnderWay}
@@ -23,7 +24,7 @@ use Rattle.never_cut.specs.declared.model.Model.{Model}
 use Rattle.never_cut.specs.declared.pipe_model.PipeModel.{PipeModel}
 use Rattle.never_cut.specs.State.{no_pipe}
 use Rattle.never_cut.specs.Commit.{start_at, task_at, stamped, is_expired, is_of_queue, with_sends}
-use Rattle.never_cut.specs.Stands.{Saved, saved, thread_words, origin_word, due_word, log_of, AreLogged}
+use Rattle.never_cut.specs.Stands.{Saved, saved, thread_words, log_of, AreLogged}
 use Rattle.never_cut.specs.Picked.{IsPicked}
 use Rattle.task_run.specs.declared.ending.Ending.{Ending}
 use Rattle.task_run.specs.declared.ending.Ending.TheVariants as endings
@@ -317,7 +318,7 @@ Progress words p (StoreLog n w) =
     ExecutingIn p (Puts w) × (n ≡ length p.y.outputs) × (length p.y.outputs < length p.x.outputs + p.a.room.log)
 Progress words p (WriteCount k) =
     (w : ℕ) × ExecutingIn p (Puts w) × (k ≡ length p.y.outputs + 1) × (length p.y.outputs < length p.x.outputs + p.a.room.log)
-    × (log_of words p.pick.thread.0 (length p.y.outputs) ≡ (p.stamp + 1) * 2 ^ 32 + w)
+    × (log_of words p.pick.thread.0 (length p.y.outputs) ≡ output_word (record { stamp = p.stamp + 1; thread = p.pick.thread; value = w }))
 Progress words p (LoadReader s) = SendingTo p s
 Progress words p (LoadTaken s commit) = SendingTo p s × (commit ≡ words (Commit (pipe_def p.program s.pipe).reader.0))
 Progress words p (ReadWritten s taken) = SendingTo p s × (taken ≡ (slice_index_or p.pipes s.pipe no_pipe).taken)

@@ -1,24 +1,27 @@
--- The words of an origin and of a chain's next task read back as what they were made of.
+-- What is read from the word of a value is the value.
 use Rattle.std.proofs.Common.{◌≡◌, ◌≢◌, ℕ, ◌+◌, ◌-◌, ◌*◌, ◌/◌, ◌%◌, ◌^◌, ◌<◌, Option, Some, None, arith, refl, ap, ◌∙◌}
 use Rattle.std.proofs.lemmas.Bool.{ne_eqb, eq-eqb}
 use Rattle.ink_base.specs.declared.ids.TaskId.{TaskId}
 use Rattle.ink_base.specs.declared.event.Origin.{Origin}
 use Rattle.ink_base.specs.declared.event.Origin.TheVariants as origins
-use Rattle.never_cut.specs.Stands.{next_word, origin_word}
-use Rattle.priority_sched.specs.Scan.{running_of, origin_of}
+use Rattle.ink_base.specs.declared.output.Output.{Output}
+use Rattle.fram_words.specs.declared.held.Src.{Src}
+use Rattle.fram_words.specs.Held.{next_word, running_of, origin_word, origin_of, HasOriginBits, due_word, due_of, output_word, output_of, HasOutputBits, src_word, src_of}
+
+-- one more than a number is the word of something, and one less than the word is the number
+some_more : (n : ℕ) → n + 1 ≢ 0
+some_more n e = absurd (omega arith)
+
+back_again : (n : ℕ) → n + 1 - 1 ≡ n
+back_again n = omega arith
 
 pub running_of-next_word : (running : Option TaskId) → running_of (next_word running) ≡ running
 running_of-next_word None = refl
-running_of-next_word (Some task) =
-    let some : task.0 + 1 ≢ 0 = λ e. absurd (omega arith) in
-    let back : task.0 + 1 - 1 ≡ task.0 = omega arith in
-    rw (ne_eqb (task.0 + 1) 0 some) (ap (λ (k : ℕ). Some (record { 0 = k })) back)
+running_of-next_word (Some task) = rw (ne_eqb (task.0 + 1) 0 (some_more task.0)) (ap (λ (k : ℕ). Some (record { 0 = k })) (back_again task.0))
 
--- the numbers of an origin have the bits that its word gives them
-abbrev pub HasOriginBits : Origin → Type 0
-HasOriginBits (origins.Source source count) = (source.0 < 2 ^ 8) × (count < 2 ^ 8)
-HasOriginBits (origins.Pipe pipe item) = (pipe.0 < 2 ^ 8) × (item < 2 ^ 32)
-HasOriginBits (origins.Timer timer deadline) = (timer.0 < 2 ^ 8) × (deadline < 2 ^ 48)
+pub due_of-due_word : (due : Option ℕ) → due_of (due_word due) ≡ due
+due_of-due_word None = refl
+due_of-due_word (Some due) = rw (ne_eqb (due + 1) 0 (some_more due)) (ap (λ (k : ℕ). Some k) (back_again due))
 
 pub origin_of-origin_word : (o : Origin) → HasOriginBits o → origin_of (origin_word o) ≡ o
 origin_of-origin_word (origins.Source source count) h =
@@ -51,3 +54,15 @@ origin_of-origin_word (origins.Timer timer deadline) h =
     let two : word % 2 ^ 48 ≡ deadline = omega arith in
     rw (ne_eqb (word / 2 ^ 56) 1 other, ne_eqb (word / 2 ^ 56) 2 another)
     (ap (λ (k : ℕ). origins.Timer (record { 0 = k }) (word % 2 ^ 48)) one ∙ ap (λ (k : ℕ). origins.Timer timer k) two)
+
+pub output_of-output_word : (o : Output) → HasOutputBits o → output_of o.thread (output_word o) ≡ o
+output_of-output_word o h =
+    let stamp : output_word o / 2 ^ 32 ≡ o.stamp = omega (arith, h.stamp, h.value) in
+    let value : output_word o % 2 ^ 32 ≡ o.value = omega (arith, h.stamp, h.value) in
+    rw (stamp, value) refl
+
+pub src_of-src_word : (accepted next : ℕ) → accepted < 2 ^ 32 → src_of (src_word accepted next) ≡ record { accepted = accepted; next = next }
+src_of-src_word accepted next lt =
+    let low : src_word accepted next % 2 ^ 32 ≡ accepted = omega arith in
+    let high : src_word accepted next / 2 ^ 32 ≡ next = omega arith in
+    rw (low, high) refl
