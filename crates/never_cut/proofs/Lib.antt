@@ -44,3 +44,8 @@ pub mod Served
 pub mod Replays
 pub mod FirstImages
 pub mod Costs
+pub mod ReadQueues
+pub mod ReadSources
+pub mod ReadStates
+pub mod ReadCounts
+pub mod ImagesStand

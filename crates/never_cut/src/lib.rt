@@ -6,6 +6,7 @@ mod effects;
 mod entered;
 mod entering;
 mod evaluating;
+mod images;
 mod journal;
 mod kept_outputs;
 mod laws;
@@ -24,6 +25,7 @@ mod thread_model;
 mod timer_model;
 
 pub use entered::Entered;
+pub use images::images_stand;
 pub use journal::{replay, replay_from};
 pub use laws::journals_keep;
 pub use model::Model;

@@ -7,22 +7,11 @@ use Rattle.ink_base.specs.declared.output.Output.{Output}
 use Rattle.fram_words.specs.Held.{next_word}
 use Rattle.thread_state.specs.Pages.{put}
 use Rattle.never_cut.specs.Stands.{Saved, thread_words}
+pub use Rattle.never_cut.proofs.Blocks.{below_eight}
 use Rattle.task_run.specs.declared.ending.Ending.{Ending}
 use Rattle.task_run.specs.declared.ending.Ending.TheVariants as endings
 use Rattle.task_run.specs.Endings.{total_word}
 use Rattle.task_run.specs.Serving.{changed, with_due, rested, finish, total_of, with_total}
-
--- what holds of each number below 8 holds of a number below 8
-pub below_eight : (P : ℕ → Type 0) → P 0 → P 1 → P 2 → P 3 → P 4 → P 5 → P 6 → P 7 → (q : ℕ) → q < 8 → P q
-below_eight P a b c d e f g h zero lt = a
-below_eight P a b c d e f g h (suc zero) lt = b
-below_eight P a b c d e f g h (suc (suc zero)) lt = c
-below_eight P a b c d e f g h (suc (suc (suc zero))) lt = d
-below_eight P a b c d e f g h (suc (suc (suc (suc zero)))) lt = e
-below_eight P a b c d e f g h (suc (suc (suc (suc (suc zero))))) lt = f
-below_eight P a b c d e f g h (suc (suc (suc (suc (suc (suc zero)))))) lt = g
-below_eight P a b c d e f g h (suc (suc (suc (suc (suc (suc (suc zero))))))) lt = h
-below_eight P a b c d e f g h (suc (suc (suc (suc (suc (suc (suc (suc q)))))))) lt = absurd (omega arith)
 
 pub put_set : (xs : List ℕ) (i v w : ℕ) → i < length xs → put (λ k. get_or xs k 0) i v w ≡ get_or (set xs i v) w 0
 put_set xs i v w lt =

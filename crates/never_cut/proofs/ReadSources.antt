@@ -1,0 +1,170 @@
+-- What SRC, ACK and the held events tell of a source is what the words stand for.
+use Rattle.std.proofs.Common.{◌≡◌, inl, inr, ◌⊎◌, ℕ, zero, suc, ◌+◌, ◌-◌, ◌*◌, ◌/◌, ◌%◌, ◌^◌, ◌<◌, ◌≤◌, ◌==◌, ◌&&◌, ◌||◌, cond, Bool, true, false, List, [], ◌∷◌, length, take, refl, sym, ap, ◌∙◌, subst, arith}
+use Rattle.std.specs.Prelude.{count_by}
+use Rattle.std.specs.Bool.{MatchBool}
+use Rattle.std.specs.List.{list_any}
+use Rattle.std.proofs.lemmas.Bool.{cases_Bool, cases_lt, and_parts, and_from, eq-eqb, eqb-true}
+use Rattle.ink_base.specs.declared.event.Event.{Event}
+use Rattle.ink_base.specs.declared.event.Origin.{Origin}
+use Rattle.ink_base.specs.declared.event.Origin.TheVariants as origins
+use Rattle.task_isa.specs.declared.program.Program.{Program}
+use Rattle.fram_words.specs.Places.{Memory, Ack, Src}
+use Rattle.fram_words.specs.Held.{src_of}
+use Rattle.push_core.specs.Queue.{Source, event_at, event_source, event_count, IsNumber, HoldsNumber, IsOneMore, StandsSource, Numbered, Stored, KeepsNumbers}
+use Rattle.prog_check.specs.Lookup.{source_thread}
+use Rattle.never_cut.specs.Stands.{flag}
+use Rattle.never_cut.specs.Sound.{IsQueued}
+use Rattle.never_cut.specs.ReadOff.{held_in, queue_in, is_number, is_one_more, source_in}
+use Rattle.never_cut.specs.Image.{own_events, held_for, IsSourceRight}
+
+-- the test of a number finds the event that has it
+number_is : (program : Program) (t i number value : ℕ) (o : Origin) → IsQueued program t (record { origin = o; value = value }) →
+    is_number i number (record { origin = o; value = value }) ≡ true → IsNumber i number (record { origin = o; value = value })
+number_is program t i number value (origins.Source source count) queued is =
+    let both = and_parts (source.0 == i) (count == number % 64) is in
+    ap (λ (n : ℕ). origins.Source (record { 0 = n }) count) (eqb-true _ _ both.0) ∙ ap (λ (n : ℕ). origins.Source (record { 0 = i }) n) (eqb-true _ _ both.1)
+number_is program t i number value (origins.Pipe pipe item) queued is = absurd queued
+number_is program t i number value (origins.Timer timer deadline) queued is = absurd queued
+
+number_found : (i number : ℕ) (e : Event) → IsNumber i number e → is_number i number e ≡ true
+number_found i number e is = ap (λ o. is_number i number (record e { origin = o })) is ∙ and_from (i == i) (number % 64 == number % 64) (eq-eqb _ _ refl) (eq-eqb _ _ refl)
+
+-- an event that passes a test is found, and one that is found stands somewhere
+any_at : (test : Event → Bool) (held : List Event) (k : ℕ) → k < length held → test (event_at held k) ≡ true → list_any test held ≡ true
+any_at test [] k lt is = absurd (omega arith)
+any_at test (e ∷ held) zero lt is = rw is refl
+any_at test (e ∷ held) (suc k) lt is = either (test e) (list_any test held) (any_at test held k (omega arith) is)
+  where
+    either : (a b : Bool) → b ≡ true → (a || b) ≡ true
+    either true b h = refl
+    either false b h = h
+
+any_found : (test : Event → Bool) (held : List Event) → list_any test held ≡ true → (k : ℕ) × (k < length held) × (test (event_at held k) ≡ true)
+any_found test [] is = absurd (let clash : false ≡ true = is in cc)
+any_found test (e ∷ held) is =
+    elim (cases_Bool (test e)) [
+      | inl yes ↦ (zero, omega arith, yes)
+      | inr no ↦
+          let rest : list_any test held ≡ true = sym (ap (λ b. b || list_any test held) no) ∙ is in
+          let found = any_found test held rest in (suc found.0, omega (arith, found.1), found.2)
+    ]
+
+or_parts : (a b : Bool) → (a || b) ≡ true → (a ≡ true) ⊎ (b ≡ true)
+or_parts true b is = inl refl
+or_parts false b is = inr is
+
+or_left : (a b : Bool) → a ≡ true → (a || b) ≡ true
+or_left true b is = refl
+or_left false b is = absurd (let clash : false ≡ true = is in cc)
+
+or_right : (a b : Bool) → b ≡ true → (a || b) ≡ true
+or_right true b is = refl
+or_right false b is = is
+
+module _ (program : Program) (words : Memory) (i : ℕ) (queued : (k : ℕ) → k < length (held_for program words i) → IsQueued program (source_thread program i) (event_at (held_for program words i) k)) where
+  abbrev number : ℕ
+  number = (src_of (words (Src i))).accepted
+
+  abbrev held : List Event
+  held = held_for program words i
+
+  more_found : IsOneMore i (words (Src i)) (words (Ack i)) held → is_one_more program words i ≡ true
+  more_found (inl holds) = or_left _ _ (any_at (is_number i number) held holds.0 holds.1 (number_found i number (event_at held holds.0) holds.2))
+  more_found (inr ack) = or_right (list_any (is_number i number) held) _ (eq-eqb _ _ ack)
+
+  more_is : is_one_more program words i ≡ true → IsOneMore i (words (Src i)) (words (Ack i)) held
+  more_is is = elim (or_parts (list_any (is_number i number) held) (words (Ack i) == (number + 1) % 64) is) [
+    | inl some ↦
+        let found = any_found (is_number i number) held some in
+        inl (found.0, found.1, number_is program (source_thread program i) i number (event_at held found.0).value (event_at held found.0).origin (queued found.0 found.1) found.2)
+    | inr ack ↦ inr (eqb-true _ _ ack)
+  ]
+
+  -- so the words stand for the source that they tell
+  pub source_read : StandsSource i (words (Src i)) (words (Ack i)) held (source_in program words i)
+  source_read = record {
+    one_more = λ more.
+        let is : flag (is_one_more program words i) ≡ 1 = ap flag (more_found more) in
+        (omega (arith, is), omega (arith, is));
+    as_many = λ neither. elim (cases_Bool (is_one_more program words i)) [
+      | inl is ↦ absurd (neither (more_is is))
+      | inr not ↦ let is : flag (is_one_more program words i) ≡ 0 = ap flag not in (omega (arith, is), omega (arith, is))
+    ];
+  }
+
+-- the counts of a source's events are in order where each is what those before it make it
+abbrev AreCounted : (i : ℕ) → List Event → (first : ℕ) → Type 0
+AreCounted i held first =
+    (j : ℕ) → j < length held → event_source (event_at held j) ≡ i → event_count (event_at held j) ≡ (first + own_events i (take j held)) % 64
+
+first_numbered : (i : ℕ) (e : Event) (held : List Event) (first : ℕ) (b : Bool) → (event_source e == i) ≡ b → AreCounted i (e ∷ held) first →
+    ((n : ℕ) → AreCounted i held n → Numbered i held n (n + own_events i held)) →
+    MatchBool b ((event_count e ≡ first % 64) × Numbered i held (suc first) (first + (cond b 1 0 + own_events i held))) (Numbered i held first (first + (cond b 1 0 + own_events i held)))
+first_numbered i e held first true test counts rest =
+    let here : event_count e ≡ (first + 0) % 64 = counts zero (omega arith) (eqb-true _ _ test) in
+    let next : AreCounted i held (suc first) = λ j lt is.
+        counts (suc j) (omega arith) is
+        ∙ ap (λ n. (first + n) % 64) (ap (λ (b : Bool). cond b 1 0 + own_events i (take j held)) test)
+        ∙ ap (λ n. n % 64) (let s : first + (1 + own_events i (take j held)) ≡ suc first + own_events i (take j held) = omega arith in s)
+    in (
+      here ∙ ap (λ n. n % 64) (let z : first + 0 ≡ first = omega arith in z),
+      subst (Numbered i held (suc first)) (let s : suc first + own_events i held ≡ first + (1 + own_events i held) = omega arith in s) (rest (suc first) next),
+    )
+first_numbered i e held first false test counts rest =
+    let next : AreCounted i held first = λ j lt is.
+        counts (suc j) (omega arith) is
+        ∙ ap (λ n. (first + n) % 64) (ap (λ (b : Bool). cond b 1 0 + own_events i (take j held)) test)
+        ∙ ap (λ n. n % 64) (let s : first + (0 + own_events i (take j held)) ≡ first + own_events i (take j held) = omega arith in s)
+    in subst (Numbered i held first) (let s : first + own_events i held ≡ first + (0 + own_events i held) = omega arith in s) (rest first next)
+
+numbered : (i : ℕ) (held : List Event) (first : ℕ) → AreCounted i held first → Numbered i held first (first + own_events i held)
+numbered i [] first counts = omega arith
+numbered i (e ∷ held) first counts = first_numbered i e held first (event_source e == i) refl counts (λ n more. numbered i held n more)
+
+-- a source that has events among these has one somewhere
+some_own : (i : ℕ) (held : List Event) → 0 < own_events i held → (j : ℕ) × (j < length held) × (event_source (event_at held j) ≡ i)
+some_own i [] some = absurd (omega arith)
+some_own i (e ∷ held) some =
+    elim (cases_Bool (event_source e == i)) [
+      | inl yes ↦ (zero, omega arith, eqb-true _ _ yes)
+      | inr no ↦
+          let none : cond (event_source e == i) 1 0 ≡ 0 = ap (λ (b : Bool). cond b 1 0) no in
+          let found = some_own i held (omega (arith, none)) in (suc found.0, omega (arith, found.1), found.2)
+    ]
+
+module _ (program : Program) (words : Memory) (i : ℕ) (right : IsSourceRight program words i) where
+  -- no more events are held than were accepted
+  held_accepted : own_events i (held_for program words i) ≤ (source_in program words i).accepted
+  held_accepted =
+      elim (cases_lt 0 (own_events i (held_for program words i))) [
+        | inl some ↦ let found = some_own i (held_for program words i) some in (right.counts found.0 found.1 found.2).0
+        | inr none ↦ omega arith
+      ]
+
+  stored : Stored (words (Src i)) (source_in program words i)
+  stored =
+      let src : ℕ = words (Src i) in (
+        src % 2 ^ 32,
+        src / 2 ^ 32,
+        omega arith,
+        elim (cases_Bool (is_one_more program words i)) [
+          | inl is ↦ let one : flag (is_one_more program words i) ≡ 1 = ap flag is in inr (omega (arith, one), omega (arith, one))
+          | inr not ↦ let none : flag (is_one_more program words i) ≡ 0 = ap flag not in inl (omega (arith, none), omega (arith, none))
+        ],
+      )
+
+  -- its numbers are kept in order
+  pub source_keeps : KeepsNumbers i (words (Src i)) (words (Ack i)) (queue_in program words (source_thread program i)) (source_in program words i)
+  source_keeps =
+      let gone : ℕ = (source_in program words i).accepted - own_events i (held_for program words i) in
+      let all : gone + own_events i (held_for program words i) ≡ (source_in program words i).accepted = omega (arith, held_accepted) in
+      record {
+        gone = gone;
+        numbered = subst (Numbered i (held_for program words i) gone) all (numbered i (held_for program words i) gone (λ j lt is. (right.counts j lt is).1));
+        ack_is = right.ack;
+        stored = stored;
+      }
+
+  -- no more readings are accepted than settled
+  pub source_ordered : (source_in program words i).accepted ≤ (source_in program words i).next
+  source_ordered = let le = right.src in omega arith
