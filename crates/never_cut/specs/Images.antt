@@ -30,3 +30,22 @@ abbrev pub EveryImageStands : Type 0
 EveryImageStands =
     (program : Program) (readings : Readings) (listed : List ℕ) (words : Memory) (m : Model) → IsAccepted program → IsImage program words → ¬ IsWorn program listed words →
     IsReadOff program words m → AreListed program listed m readings → IsStanding program readings words m
+
+-- Beside soundness, what an image promises of the words and the state: commit words name pages that are there, numbers have 32 bits, an output's stamp is one
+-- that its thread has reached, a stamp is of one thread, one thread alone has a finished event, and sources keep their numbers.
+pub record KeepsImage (program : Program) (words : Memory) (m : Model) : Type 0 where
+  pub commit_words : (t : ℕ) → t < length program.threads → IsCommitWord program words t
+  pub states : (t k : ℕ) → t < length program.threads → slice_index (thread_of m t).state k < 2 ^ 32
+  pub values : (t : ℕ) → t < length program.threads → All (λ (o : Output). o.value < 2 ^ 32) (outputs_of m t)
+  pub reached : (t : ℕ) → t < length program.threads → All (λ (o : Output). (1 ≤ o.stamp) × (o.stamp ≤ committed words t header.stamp)) (outputs_of m t)
+  pub ordered : (t : ℕ) → t < length program.threads → IsNonDecreasingBy (λ (o : Output). o.stamp) (outputs_of m t)
+  pub apart : (t u : ℕ) → t < length program.threads → u < t → All (λ (o : Output). All (λ (other : Output). other.stamp ≢ o.stamp) (outputs_of m u)) (outputs_of m t)
+  pub only : (t u : ℕ) → t < length program.threads → u < t → (thread_of m t).finished ≡ true → (thread_of m u).finished ≡ false
+  pub numbers : (i : ℕ) → i < length program.sources →
+      KeepsNumbers i (words (Src i)) (words (Ack i)) (queue_of (thread_of m (source_thread program i))) (source_of_model (source_of m i))
+
+-- words that stand for a sound state, and keep what an image promises beside, are an image
+abbrev pub EveryStateIsImage : Type 0
+EveryStateIsImage =
+    (program : Program) (readings : Readings) (words : Memory) (m : Model) → IsAccepted program → IsSound program readings m → Stands words program m →
+    KeepsImage program words m → IsImage program words
