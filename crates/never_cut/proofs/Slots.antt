@@ -14,18 +14,19 @@ use Rattle.push_core.proofs.Slots.{slot_in-full, slot_in-empty}
 use Rattle.prog_check.specs.Lookup.{thread_def}
 use Rattle.never_cut.specs.declared.model.Model.{Model}
 use Rattle.never_cut.specs.declared.thread_model.ThreadModel.{ThreadModel}
-use Rattle.never_cut.specs.State.{thread_of}
+use Rattle.never_cut.specs.State.{thread_of, queue_of}
 use Rattle.never_cut.specs.Entries.{Readings}
-use Rattle.never_cut.specs.Stands.{StandsQueue, event_word, event_at, published, slots_of}
+use Rattle.never_cut.specs.Stands.{slots_of}
+use Rattle.push_core.specs.Queue.{StandsQueue, event_word, event_at, published}
 use Rattle.never_cut.specs.Sound.{IsQueued}
 use Rattle.never_cut.specs.Steps.{Background}
 
 -- the slots of a thread's queue stand for its events, and all numbers fit their bits
 pub record IsReadable (program : Program) (t places : ℕ) (slot : ℕ → ℕ) (tail : ℕ) (x : ThreadModel) : Type 0 where
-  pub stands : StandsQueue places slot tail x
+  pub stands : StandsQueue places slot tail (queue_of x)
   pub some : 0 < places
   pub few : places ≤ 32
-  pub small : published x < 2 ^ 20
+  pub small : published (queue_of x) < 2 ^ 20
   pub queued : (k : ℕ) → k < length x.held → IsQueued program t (event_at x.held k)
   pub sources : length program.sources ≤ 16
 
@@ -61,16 +62,16 @@ pub held_slot : (program : Program) (t places : ℕ) (slot : ℕ → ℕ) (tail 
     slot_in (slot ((x.released + k) % places)) ≡ slot_of (x.released + k) (event_at x.held k)
 held_slot program t places slot tail k x h lt =
     let e = event_at x.held k in
-    let small : published x < 2 ^ 20 = h.small in
-    ap slot_in (h.stands.full k lt) ∙ event_shown program t (x.released + k) e.origin e.value h.sources (omega arith) (h.queued k lt)
+    let small : published (queue_of x) < 2 ^ 20 = h.small in
+    ap slot_in (h.stands.full_slots k lt) ∙ event_shown program t (x.released + k) e.origin e.value h.sources (omega arith) (h.queued k lt)
 
 -- and a free one
 pub free_slot : (program : Program) (t places : ℕ) (slot : ℕ → ℕ) (tail s : ℕ) (x : ThreadModel) → IsReadable program t places slot tail x →
-    published x ≤ s → s < x.released + places → slot_in (slot (s % places)) ≡ Some (Empty s)
+    published (queue_of x) ≤ s → s < x.released + places → slot_in (slot (s % places)) ≡ Some (Empty s)
 free_slot program t places slot tail s x h above below =
-    let small : published x < 2 ^ 20 = h.small in
+    let small : published (queue_of x) < 2 ^ 20 = h.small in
     let few : places ≤ 32 = h.few in
-    ap slot_in (h.stands.free s above below) ∙ slot_in-empty s (omega arith)
+    ap slot_in (h.stands.empty_slots s above below) ∙ slot_in-empty s (omega arith)
 
 -- the slot of the first event
 pub first_slot : (program : Program) (t places : ℕ) (slot : ℕ → ℕ) (tail : ℕ) (x : ThreadModel) (e : Event) (rest : List Event) → IsReadable program t places slot tail x →

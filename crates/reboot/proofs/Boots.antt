@@ -20,7 +20,8 @@ use Rattle.never_cut.specs.declared.model.Model.{Model}
 use Rattle.never_cut.specs.declared.thread_model.ThreadModel.{ThreadModel}
 use Rattle.never_cut.specs.State.{thread_of}
 use Rattle.never_cut.specs.Entries.{Readings}
-use Rattle.never_cut.specs.Stands.{flag, StandsPrivate, event_at}
+use Rattle.never_cut.specs.Stands.{flag, StandsPrivate}
+use Rattle.push_core.specs.Queue.{event_at}
 use Rattle.never_cut.specs.Sound.{IsQueued}
 use Rattle.never_cut.specs.Actors.{IsFirstHeld, StandsForKernel}
 use Rattle.never_cut.specs.Steps.{Background, IsKept}

@@ -12,9 +12,10 @@ use Rattle.push_core.specs.Slots.{slot_in}
 use Rattle.prog_check.specs.Lookup.{thread_def}
 use Rattle.never_cut.specs.declared.model.Model.{Model}
 use Rattle.never_cut.specs.declared.thread_model.ThreadModel.{ThreadModel}
-use Rattle.never_cut.specs.State.{thread_of}
+use Rattle.never_cut.specs.State.{thread_of, queue_of}
 use Rattle.never_cut.specs.Entries.{Readings}
-use Rattle.never_cut.specs.Stands.{flag, published, event_at}
+use Rattle.never_cut.specs.Stands.{flag}
+use Rattle.push_core.specs.Queue.{published, event_at}
 use Rattle.never_cut.specs.Sound.{IsQueued}
 use Rattle.never_cut.specs.Actors.{IsFinishing}
 use Rattle.never_cut.specs.Steps.{Background}
@@ -37,7 +38,7 @@ of_source program t p (origins.Timer timer deadline) value h = absurd h
 pub slot_source : (program : Program) (t size : ℕ) (slot : ℕ → ℕ) (tail s : ℕ) (x : ThreadModel) → IsReadable program t size slot tail x →
     x.released ≤ s → s < x.released + size → IsOfSource program (slot_in (slot (s % size)))
 slot_source program t size slot tail s x h above below =
-    elim (cases_lt s (published x)) [
+    elim (cases_lt s (published (queue_of x))) [
       | inl held ↦
           let at : x.released + (s - x.released) ≡ s = omega arith in
           let k : s - x.released < length x.held = omega arith in
@@ -66,7 +67,7 @@ flag_small false = omega arith
 events_small : (program : Program) (readings : Readings) (words : Memory) (m : Model) (t : ℕ) → Background program readings words m → t < length program.threads →
     finished_events m t < 2 ^ 20
 events_small program readings words m t b known =
-    let small : published (thread_of m t) < 2 ^ 20 = b.shared.small t known in
+    let small : published (queue_of (thread_of m t)) < 2 ^ 20 = b.shared.small t known in
     let sound = b.sound.threads t known in
     elim (cases_Bool (thread_of m t).finished) [
       | inl is ↦ let some = sound.finished is in let held : 0 < length (thread_of m t).held = some.0 in rw is (omega arith)
@@ -90,11 +91,11 @@ row_in_range program readings words m t stamp (Slot p) b known h =
     let small : finished_events m t < 2 ^ 20 = events_small program readings words m t b known in
     let at : p + 1 ≡ finished_events m t = h.0 in omega arith
 row_in_range program readings words m t stamp (Ack p source count) b known h =
-    let small : published (thread_of m t) < 2 ^ 20 = b.shared.small t known in
+    let small : published (queue_of (thread_of m t)) < 2 ^ 20 = b.shared.small t known in
     let at : p ≡ (thread_of m t).released = h.0.position in
     (omega arith, finishing_source program readings words m t source.0 count b known h.0.finishing)
 row_in_range program readings words m t stamp (Empty p) b known h =
-    let small : published (thread_of m t) < 2 ^ 20 = b.shared.small t known in
+    let small : published (queue_of (thread_of m t)) < 2 ^ 20 = b.shared.small t known in
     let at : p ≡ (thread_of m t).released = h.0.event.position in omega arith
 row_in_range program readings words m t stamp Over b known h = tt
 
