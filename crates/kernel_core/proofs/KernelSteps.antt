@@ -1,5 +1,5 @@
 -- Each access of the kernel is a step that the sources' side is proved for.
-use Rattle.std.proofs.Common.{◌≡◌, inl, ℕ, suc, ◌+◌, ◌%◌, ◌<◌, false, List, [], ◌∷◌, length, map, drop, set, refl, sym, ap, ◌∙◌, subst, arith}
+use Rattle.std.proofs.Common.{◌≡◌, inl, ℕ, ◌+◌, ◌%◌, ◌<◌, false, List, length, set, refl, sym, ap, ◌∙◌, subst, arith}
 use Rattle.ink_base.specs.declared.ids.ThreadId.{ThreadId}
 use Rattle.ink_base.specs.declared.event.Event.{Event}
 use Rattle.ink_base.specs.declared.event.Origin.TheVariants as origins
@@ -7,7 +7,6 @@ use Rattle.ink_base.specs.declared.entry.Entry.TheVariants as entries
 use Rattle.fram_words.specs.Places.{Commit, Slot, Ack, Memory, Access, Store, store, perform}
 use Rattle.fram_words.specs.Changes.{Becomes}
 use Rattle.fram_words.proofs.Accesses.{stored}
-use Rattle.push_core.specs.Slots.{empty_word}
 use Rattle.push_core.specs.declared.row.Row.{Row}
 use Rattle.push_core.specs.Queue.{Queue, event_at, event_source, event_count, with_finished, without_first}
 use Rattle.source_laws.specs.Model.{QueueBecomes}

@@ -1,11 +1,10 @@
 -- What the accesses of sources and clock leave of what the kernel knows.
-use Rattle.std.proofs.Common.{◌≡◌, inl, inr, ℕ, suc, ◌+◌, ◌<◌, ◌≤◌, ◌==◌, false, cond, List, [], ◌∷◌, ◌++◌, length, map, get_or, set, Some, refl, sym, ap, ◌∙◌, subst, arith}
+use Rattle.std.proofs.Common.{◌≡◌, inl, inr, ℕ, ◌+◌, ◌<◌, ◌≤◌, ◌==◌, cond, List, [], ◌∷◌, ◌++◌, length, get_or, set, Some, refl, sym, ap, ◌∙◌, subst, arith}
 use Rattle.std.proofs.lemmas.Bool.{cases_eq, eq-eqb, ne_eqb}
-use Rattle.std.proofs.lemmas.List.{append-nil, length-set, length-map}
+use Rattle.std.proofs.lemmas.List.{append-nil, length-set}
 use Rattle.ink_base.specs.declared.event.Event.{Event}
 use Rattle.ink_base.specs.declared.entry.Entry.TheVariants as entries
 use Rattle.fram_words.specs.Places.{Place, Tail, Slot, Src, Memory, Exchange, Store, perform}
-use Rattle.fram_words.specs.Changes.{Becomes}
 use Rattle.task_isa.specs.declared.program.Program.{Program}
 use Rattle.prog_check.specs.Lookup.{source_thread}
 use Rattle.push_core.specs.declared.stage.Stage.{Stage}
