@@ -1,5 +1,5 @@
 -- What a commit leaves of queues and sources: a queue whose event is finished, or all as it was.
-use Rattle.std.proofs.Common.{◌≡◌, ℕ, ◌+◌, ◌<◌, Bool, true, false, List, length, map, get_or, set, Option, Some, None, refl, sym, ap, ◌∙◌, subst, inl, inr}
+use Rattle.std.proofs.Common.{◌≡◌, ℕ, ◌+◌, ◌<◌, Bool, true, false, List, length, get_or, set, Option, Some, None, refl, sym, ap, ◌∙◌, subst, inl, inr}
 use Rattle.std.proofs.Math.Path.{fun_ext}
 use Rattle.std.proofs.lemmas.Bool.{cases_eq}
 use Rattle.std.proofs.lemmas.List.{get_or-set_same, get_or-set_other}
@@ -9,34 +9,34 @@ use Rattle.task_isa.specs.declared.program.Program.{Program}
 use Rattle.task_isa.specs.declared.outcome.Outcome.{Outcome}
 use Rattle.task_isa.specs.declared.outcome.Outcome.TheVariants as outcomes
 use Rattle.task_isa.specs.declared.task_end.TaskEnd.{TaskEnd}
-use Rattle.source_laws.specs.Model.{with_finished}
+use Rattle.push_core.specs.Queue.{with_finished}
 use Rattle.never_cut.specs.declared.model.Model.{Model}
 use Rattle.never_cut.specs.declared.thread_model.ThreadModel.{ThreadModel}
 use Rattle.never_cut.specs.declared.scan_model.ScanModel.{ScanModel}
-use Rattle.never_cut.specs.State.{thread_of, is_running, no_thread, no_source}
+use Rattle.never_cut.specs.State.{thread_of, queue_of, source_in, is_running, no_thread, no_source}
 use Rattle.never_cut.specs.Pending.{pending}
 use Rattle.never_cut.specs.Picked.{IsPicked}
 use Rattle.never_cut.specs.Commit.{commit, committed, consumed, ended, end_at, expired, expired_after, is_expired, is_of_queue, thread_after, with_end, with_first}
 use Rattle.fram_words.specs.Places.{Memory}
 use Rattle.ink_layout.specs.declared.pick.Pick.{Pick}
-use Rattle.kernel_core.specs.Views.{queue_event, queue_in, source_in, sides_of}
+use Rattle.kernel_core.specs.Views.{sides_of}
 
 -- the thread's queue is as it was, or its event, which is one of the queue, is finished
 pub data Side (e : Event) (x y : ThreadModel) : Type 0 where
-  Same : queue_in y ≡ queue_in x → Side e x y
-  Finishes : is_of_queue e ≡ true → queue_in y ≡ with_finished (queue_in x) → Side e x y
+  Same : queue_of y ≡ queue_of x → Side e x y
+  Finishes : is_of_queue e ≡ true → queue_of y ≡ with_finished (queue_of x) → Side e x y
 
 -- a thread with the same queue, but for the finished mark
 side_of : (e : Event) (x y : ThreadModel) (b : Bool) → x.finished ≡ false → is_of_queue e ≡ b → y.held ≡ x.held → y.released ≡ x.released → y.finished ≡ (x.finished || b) → Side e x y
 side_of e x y true open_queue is held released finished =
     Finishes is (λ k. record {
-      held = map queue_event (held k);
+      held = held k;
       finished = (finished ∙ ap (λ f. f || true) open_queue) k;
       released = released k;
     })
 side_of e x y false open_queue is held released finished =
     Same (λ k. record {
-      held = map queue_event (held k);
+      held = held k;
       finished = (finished ∙ (ap (λ f. f || false) open_queue ∙ sym open_queue)) k;
       released = released k;
     })
@@ -47,7 +47,7 @@ with_end_side e x y open_queue held released finished =
 
 after_side : (e : Event) (o : Outcome) (state : List ℕ) (x y : ThreadModel) → x.finished ≡ false → y.held ≡ x.held → y.released ≡ x.released → y.finished ≡ x.finished →
     Side e x (thread_after e o state y)
-after_side e (outcomes.Next task) state x y open_queue held released finished = Same (λ k. record { held = map queue_event (held k); finished = finished k; released = released k })
+after_side e (outcomes.Next task) state x y open_queue held released finished = Same (λ k. record { held = held k; finished = finished k; released = released k })
 after_side e outcomes.Done state x y open_queue held released finished =
     with_end_side e x (record y { state = state; served = y.served + 1 }) open_queue held released finished
 after_side e (outcomes.Trap code) state x y open_queue held released finished =
@@ -103,19 +103,19 @@ commits_side program m t time e open_queue = by_late (is_expired program m t tim
 
 -- a commit that leaves the queue leaves all of them, and the sources
 pub sides_same : (m next : Model) (t : ℕ) (y : ThreadModel) → t < length m.threads → next.threads ≡ set m.threads t y → next.sources ≡ m.sources →
-    queue_in y ≡ queue_in (thread_of m t) → sides_of next ≡ sides_of m
+    queue_of y ≡ queue_of (thread_of m t) → sides_of next ≡ sides_of m
 sides_same m next t y lt threads sources_are same = λ k. record {
   queue = fun_ext each k;
   source = λ i. source_in (get_or (sources_are k) i no_source);
 }
   where
-    each : (u : ℕ) → queue_in (thread_of next u) ≡ queue_in (thread_of m u)
+    each : (u : ℕ) → queue_of (thread_of next u) ≡ queue_of (thread_of m u)
     each u =
-        ap (λ (l : List ThreadModel). queue_in (get_or l u no_thread)) threads
+        ap (λ (l : List ThreadModel). queue_of (get_or l u no_thread)) threads
         ∙ elim (cases_eq u t) [
-          | inl is ↦ subst (λ v. queue_in (get_or (set m.threads t y) v no_thread) ≡ queue_in (thread_of m v)) (sym is)
-              (ap queue_in (get_or-set_same m.threads t y no_thread lt) ∙ same)
-          | inr ne ↦ ap queue_in (get_or-set_other m.threads t u y no_thread ne)
+          | inl is ↦ subst (λ v. queue_of (get_or (set m.threads t y) v no_thread) ≡ queue_of (thread_of m v)) (sym is)
+              (ap queue_of (get_or-set_same m.threads t y no_thread lt) ∙ same)
+          | inr ne ↦ ap queue_of (get_or-set_other m.threads t u y no_thread ne)
         ]
 
 -- the commit of a pick is that of its pending event

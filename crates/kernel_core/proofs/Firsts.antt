@@ -13,11 +13,11 @@ use Rattle.ink_layout.specs.Shape.{shape_of, thread_shape, task_words, pipe_word
 use Rattle.ink_layout.proofs.Regions.{in_rest}
 use Rattle.ink_layout.specs.Image.{IsFirstImage}
 use Rattle.push_core.specs.Table.{first_row}
-use Rattle.source_laws.specs.Model.{open_queue}
+use Rattle.push_core.specs.Queue.{open_queue}
 use Rattle.source_laws.specs.Kept.{State}
 use Rattle.source_laws.specs.Steps.{IsFirst, IsStart}
 use Rattle.source_laws.proofs.Runs.{start_first, kept_start}
-use Rattle.never_cut.specs.State.{no_thread, no_source, open_model, open_thread, open_source}
+use Rattle.never_cut.specs.State.{queue_of, source_in, no_thread, no_source, open_model, open_thread, open_source}
 use Rattle.never_cut.proofs.FirstImages.{false_second, nothing_at, first_private}
 use Rattle.never_cut.specs.declared.model.Model.{Model}
 use Rattle.never_cut.specs.Stands.{StandsPrivate}
@@ -27,10 +27,10 @@ use Rattle.never_cut.proofs.Starts.{open_starts}
 use Rattle.reboot.proofs.Boots.{boot_begins}
 use Rattle.kernel_core.specs.Record.{ChargeRecord, not_begun, charge_of}
 use Rattle.kernel_core.specs.Board.{Setup, Board, shape, sides, row_of, moved_by, first_board}
-use Rattle.kernel_core.specs.Views.{queue_in, source_in, seen}
+use Rattle.kernel_core.specs.Views.{seen}
 use Rattle.kernel_core.specs.Holds.{IsSetup, StandsFirst, memory, HasSize, Holds}
 use Rattle.kernel_core.specs.Moves.{ticks, turns, IsInRange, EveryPrefixStands, ImagePrefixesStand}
-use Rattle.kernel_core.proofs.Sides.{places_same, within, shared_of}
+use Rattle.kernel_core.proofs.Sides.{within, shared_of}
 use Rattle.kernel_core.proofs.Cuts.{first_rows}
 use Rattle.kernel_core.proofs.Runs.{moves_hold, moves_taken, ticks_taken, turns_taken}
 use Rattle.kernel_core.proofs.Standing.{board_stands}
@@ -78,7 +78,7 @@ first_src program words i image =
       | inr past ↦ past_sources program words (Src i) 2 refl (omega (arith, length-map program.threads thread_shape, length-map program.pipes pipe_words, length-map program.threads queue_words)) past
     ]
 
-open_queue_at : (defs : List ThreadDef) (t : ℕ) → queue_in (get_or (map open_thread defs) t no_thread) ≡ open_queue
+open_queue_at : (defs : List ThreadDef) (t : ℕ) → queue_of (get_or (map open_thread defs) t no_thread) ≡ open_queue
 open_queue_at [] t = refl
 open_queue_at (d ∷ defs) zero = refl
 open_queue_at (d ∷ defs) (suc t) = open_queue_at defs t
@@ -86,8 +86,8 @@ open_queue_at (d ∷ defs) (suc t) = open_queue_at defs t
 -- the sources' side begins
 first_sides : (s : Setup) (words : List ℕ) → IsFirstImage s.program words → IsFirst (sides s) (seen (memory_of (shape s) words) (open_model s.program) (λ i. first_row))
 first_sides s words image = record {
-  slots = λ t n lt. let e = places_same s t in elim (cases_lt t (length s.program.threads)) [
-    | inl known ↦ image.each (Slot t n) (known, omega arith)
+  slots = λ t n lt. elim (cases_lt t (length s.program.threads)) [
+    | inl known ↦ image.each (Slot t n) (known, lt)
     | inr past ↦
         let none : (thread_def s.program t).queue ≡ 0 = ap (λ (d : ThreadDef). d.queue) (get_or_past s.program.threads t no_thread_def past) in
         absurd (omega arith)

@@ -13,7 +13,7 @@ use Rattle.never_cut.specs.declared.model.Model.{Model}
 use Rattle.never_cut.specs.Entries.{Readings}
 use Rattle.never_cut.specs.State.{thread_of}
 use Rattle.never_cut.specs.Sound.{IsQueued}
-use Rattle.never_cut.specs.Stands.{event_at}
+use Rattle.push_core.specs.Queue.{event_at}
 use Rattle.never_cut.specs.Steps.{Background}
 use Rattle.never_cut.specs.Within.{Lasts}
 use Rattle.never_cut.specs.Actors.{IsFinishing}

@@ -1,25 +1,25 @@
 -- Each access of the kernel is a step that the sources' side is proved for.
-use Rattle.std.proofs.Common.{◌≡◌, inl, ℕ, suc, ◌+◌, ◌%◌, ◌<◌, false, List, [], ◌∷◌, length, map, drop, set, refl, sym, ap, ◌∙◌, subst, arith}
+use Rattle.std.proofs.Common.{◌≡◌, inl, ℕ, ◌+◌, ◌%◌, ◌<◌, false, List, length, set, refl, sym, ap, ◌∙◌, subst, arith}
+use Rattle.ink_base.specs.declared.ids.ThreadId.{ThreadId}
 use Rattle.ink_base.specs.declared.event.Event.{Event}
+use Rattle.ink_base.specs.declared.event.Origin.TheVariants as origins
 use Rattle.ink_base.specs.declared.entry.Entry.TheVariants as entries
 use Rattle.fram_words.specs.Places.{Commit, Slot, Ack, Memory, Access, Store, store, perform}
 use Rattle.fram_words.specs.Changes.{Becomes}
 use Rattle.fram_words.proofs.Accesses.{stored}
-use Rattle.push_core.specs.Slots.{empty_word}
 use Rattle.push_core.specs.declared.row.Row.{Row}
-use Rattle.source_laws.specs.QueueEvent.{QueueEvent}
-use Rattle.source_laws.specs.Model.{Queue, QueueBecomes, with_finished, without_first}
-use Rattle.source_laws.specs.Stands as sides_stand
+use Rattle.push_core.specs.Queue.{Queue, event_at, event_source, event_count, with_finished, without_first}
+use Rattle.source_laws.specs.Model.{QueueBecomes}
 use Rattle.source_laws.specs.Steps.{Step, HasFinished}
 use Rattle.source_laws.specs.Steps as steps
 use Rattle.never_cut.specs.declared.model.Model.{Model}
 use Rattle.never_cut.specs.declared.thread_model.ThreadModel.{ThreadModel}
-use Rattle.never_cut.specs.State.{thread_of}
+use Rattle.never_cut.specs.State.{thread_of, queue_of, source_in}
 use Rattle.never_cut.specs.Entries.{effect, released}
 use Rattle.never_cut.specs.Actors.{IsAllowedStore, IsFinishing}
 use Rattle.kernel_core.specs.Board.{Setup, sides}
-use Rattle.kernel_core.specs.Views.{queue_event, queue_in, sides_of, seen}
-use Rattle.kernel_core.proofs.Sides.{places_same, Becomes-queue}
+use Rattle.kernel_core.specs.Views.{sides_of, seen}
+use Rattle.kernel_core.proofs.Sides.{Becomes-queue}
 use Rattle.kernel_core.proofs.Quiet.{IsUnshared, quiet}
 
 module _ (s : Setup) (words : Memory) (m : Model) (rows : ℕ → Row) where
@@ -35,69 +35,44 @@ module _ (s : Setup) (words : Memory) (m : Model) (rows : ℕ → Row) where
   pub loaded : (next : Model) → sides_of next ≡ sides_of m → To words next
   loaded next same = steps.Apart (λ p h. refl) same (λ i. inl refl)
 
-  first_event : (t i count : ℕ) (h : IsFinishing m t i count) →
-      sides_stand.event_at (queue_in (thread_of m t)).held 0 ≡ record { source = i; count = count; value = h.value }
-  first_event t i count h = ap (λ (l : List Event). sides_stand.event_at (map queue_event l) 0) h.first.1
-
-  some_event : (t i count : ℕ) → IsFinishing m t i count → 0 < length (queue_in (thread_of m t)).held
-  some_event t i count h = subst (λ (l : List Event). 0 < length (map queue_event l)) (sym h.first.1) (omega arith)
+  first_event : (t i count : ℕ) (h : IsFinishing m t i count) → event_at (thread_of m t).held 0 ≡ record { origin = origins.Source (record { 0 = i }) count; value = h.value }
+  first_event t i count h = ap (λ (l : List Event). event_at l 0) h.first.1
 
   has_finished : (t i count : ℕ) → IsFinishing m t i count → HasFinished t (sides_of m)
-  has_finished t i count h = record { finished = h.finished; some = some_event t i count h }
-
-  one_more : (n : ℕ) → (n + 1) % 64 ≡ suc n % 64
-  one_more n = omega arith
+  has_finished t i count h = record { finished = h.finished; some = subst (λ (l : List Event). 0 < length l) (sym h.first.1) (omega arith) }
 
   pub ack_step : (i v : ℕ) → IsAllowedStore s.program words m (Ack i) v → To (store words (Ack i) v) m
   ack_step i v (t, known, count, finishing, is) =
       let here = first_event t i count finishing in
       steps.Acknowledge t (has_finished t i count finishing)
       (subst (λ (z : ℕ × ℕ). Becomes (Ack z.0) z.1 words (store words (Ack i) v))
-      (λ k. (ap (λ (e : QueueEvent). e.source) (sym here) k, (is ∙ (one_more count ∙ ap (λ (e : QueueEvent). suc e.count % 64) (sym here))) k)) (stored words (Ack i) v))
+      (λ k. (ap event_source (sym here) k, (is ∙ ap (λ (e : Event). (event_count e + 1) % 64) (sym here)) k)) (stored words (Ack i) v))
       refl refl
 
-  released_queue : (x : ThreadModel) → queue_in (released x) ≡ without_first (queue_in x)
-  released_queue x = λ k. record { held = dropped x.held k; finished = false; released = more k }
-    where
-      dropped : (held : List Event) → map queue_event (drop 1 held) ≡ drop 1 (map queue_event held)
-      dropped [] = refl
-      dropped (e ∷ held) = refl
-
-      more : x.released + 1 ≡ suc x.released
-      more = omega arith
-
-  released_sides : (t : Rattle.ink_base.specs.declared.ids.ThreadId.ThreadId) → t.0 < length m.threads →
+  released_sides : (t : ThreadId) → t.0 < length m.threads →
       QueueBecomes t.0 (without_first ((sides_of m).queue t.0)) (sides_of m) (sides_of (effect s.program s.readings m (entries.Release t)))
-  released_sides t lt = record {
-    queue = subst (λ (q : Queue). Becomes t.0 q (sides_of m).queue (sides_of (effect s.program s.readings m (entries.Release t))).queue) (released_queue (thread_of m t.0))
-        (Becomes-queue m t.0 (released (thread_of m t.0)) lt);
-    source = refl;
-  }
+  released_sides t lt = record { queue = Becomes-queue m t.0 (released (thread_of m t.0)) lt; source = refl }
 
-  pub empty_step : (t : Rattle.ink_base.specs.declared.ids.ThreadId.ThreadId) (n v : ℕ) → length m.threads ≡ length s.program.threads → IsAllowedStore s.program words m (Slot t.0 n) v →
+  pub empty_step : (t : ThreadId) (n v : ℕ) → length m.threads ≡ length s.program.threads → IsAllowedStore s.program words m (Slot t.0 n) v →
       To (store words (Slot t.0 n) v) (effect s.program s.readings m (entries.Release t))
   empty_step t n v count (known, i, number, finishing, acked, at, is) =
       let here = first_event t.0 i number finishing in
       let lt : t.0 < length m.threads = omega arith in
       steps.Empties t.0 (has_finished t.0 i number finishing)
-      (ap (λ (e : QueueEvent). words (Ack e.source)) here ∙ (acked ∙ (one_more number ∙ ap (λ (e : QueueEvent). suc e.count % 64) (sym here))))
-      (subst (λ (z : ℕ × ℕ). Becomes (Slot t.0 z.0) z.1 words (store words (Slot t.0 n) v))
-      (λ k. (
-        (at ∙ ap (λ (p : ℕ). (thread_of m t.0).released % p) (sym (places_same s t.0))) k,
-        (is ∙ ap (λ (p : ℕ). empty_word ((thread_of m t.0).released + p)) (sym (places_same s t.0))) k,
-      )) (stored words (Slot t.0 n) v))
+      (ap (λ (e : Event). words (Ack (event_source e))) here ∙ (acked ∙ ap (λ (e : Event). (event_count e + 1) % 64) (sym here)))
+      (subst (λ (z : ℕ × ℕ). Becomes (Slot t.0 z.0) z.1 words (store words (Slot t.0 n) v)) (λ k. (at k, is k)) (stored words (Slot t.0 n) v))
       (released_sides t lt) refl
 
   -- a commit of which the queue's event is finished
   pub commit_step : (t w : ℕ) (x : ThreadModel) (next : Model) → t < length m.threads → next.threads ≡ set m.threads t x → next.sources ≡ m.sources →
-      queue_in x ≡ with_finished (queue_in (thread_of m t)) → (thread_of m t).finished ≡ false → 0 < length (thread_of m t).held → To (store words (Commit t) w) next
+      queue_of x ≡ with_finished (queue_of (thread_of m t)) → (thread_of m t).finished ≡ false → 0 < length (thread_of m t).held → To (store words (Commit t) w) next
   commit_step t w x next lt threads sources is open_queue some =
-      steps.Commit t (open_queue, subst (λ n. 0 < n) (sym (Rattle.std.proofs.lemmas.List.length-map (thread_of m t).held queue_event)) some)
+      steps.Commit t (open_queue, some)
       (quiet words (Store (Commit t) w) (λ h. h))
       (record {
-        queue = subst (λ (z : Queue × List ThreadModel). Becomes t z.0 (sides_of m).queue (λ j. queue_in (Rattle.std.proofs.Common.get_or z.1 j Rattle.never_cut.specs.State.no_thread)))
+        queue = subst (λ (z : Queue × List ThreadModel). Becomes t z.0 (sides_of m).queue (λ j. queue_of (Rattle.std.proofs.Common.get_or z.1 j Rattle.never_cut.specs.State.no_thread)))
             (λ k. (is k, sym threads k)) (Becomes-queue m t x lt);
         source = ap (λ (l : List Rattle.never_cut.specs.declared.source_model.SourceModel.SourceModel).
-            λ j. Rattle.kernel_core.specs.Views.source_in (Rattle.std.proofs.Common.get_or l j Rattle.never_cut.specs.State.no_source)) sources;
+            λ j. source_in (Rattle.std.proofs.Common.get_or l j Rattle.never_cut.specs.State.no_source)) sources;
       })
       refl

@@ -1,11 +1,10 @@
 -- What the accesses of sources and clock leave of what the kernel knows.
-use Rattle.std.proofs.Common.{◌≡◌, inl, inr, ℕ, suc, ◌+◌, ◌<◌, ◌≤◌, ◌==◌, false, cond, List, [], ◌∷◌, ◌++◌, length, map, get_or, set, Some, refl, sym, ap, ◌∙◌, subst, arith}
+use Rattle.std.proofs.Common.{◌≡◌, inl, inr, ℕ, ◌+◌, ◌<◌, ◌≤◌, ◌==◌, cond, List, [], ◌∷◌, ◌++◌, length, get_or, set, Some, refl, sym, ap, ◌∙◌, subst, arith}
 use Rattle.std.proofs.lemmas.Bool.{cases_eq, eq-eqb, ne_eqb}
-use Rattle.std.proofs.lemmas.List.{append-nil, length-set, length-map}
+use Rattle.std.proofs.lemmas.List.{append-nil, length-set}
 use Rattle.ink_base.specs.declared.event.Event.{Event}
 use Rattle.ink_base.specs.declared.entry.Entry.TheVariants as entries
 use Rattle.fram_words.specs.Places.{Place, Tail, Slot, Src, Memory, Exchange, Store, perform}
-use Rattle.fram_words.specs.Changes.{Becomes}
 use Rattle.task_isa.specs.declared.program.Program.{Program}
 use Rattle.prog_check.specs.Lookup.{source_thread}
 use Rattle.push_core.specs.declared.stage.Stage.{Stage}
@@ -13,11 +12,10 @@ use Rattle.push_core.specs.declared.stage.Stage.TheVariants.{LoadSrc, LoadSlots,
 use Rattle.push_core.specs.declared.point.Point.{Point}
 use Rattle.push_core.specs.declared.point.Point.TheVariants as points
 use Rattle.push_core.specs.Table.{src_word}
-use Rattle.source_laws.specs.QueueEvent.{QueueEvent}
-use Rattle.source_laws.specs.Slots.{full, empty}
-use Rattle.source_laws.specs.Model.{event_of}
+use Rattle.push_core.specs.Slots.{empty_word}
+use Rattle.push_core.specs.Queue.{event_word}
 use Rattle.source_laws.specs.Model as sources
-use Rattle.source_laws.specs.Rows.{access_at, slot_place}
+use Rattle.source_laws.specs.Rows.{access_at, event_of, slot_place}
 use Rattle.source_laws.specs.Rows as rows_of
 use Rattle.source_laws.specs.Steps.{Adds, MayAdd}
 use Rattle.never_cut.specs.declared.model.Model.{Model}
@@ -33,9 +31,9 @@ use Rattle.task_run.proofs.Outlasts.{every_task_outlasts}
 use Rattle.kernel_core.specs.declared.kernel.Kernel.{Kernel}
 use Rattle.kernel_core.specs.declared.kernel.Kernel.TheVariants.{Boot, Scan, Task}
 use Rattle.kernel_core.specs.Board.{Setup, sides, entry_of_source}
-use Rattle.kernel_core.specs.Views.{queue_event, sides_of}
+use Rattle.kernel_core.specs.Views.{sides_of}
 use Rattle.kernel_core.specs.Holds.{KernelHolds}
-use Rattle.kernel_core.proofs.Sides.{places_same, Becomes-queue, Becomes-source}
+use Rattle.kernel_core.proofs.Sides.{Becomes-queue, Becomes-source}
 use Rattle.kernel_core.proofs.Quiet.{perform_other}
 
 -- what the kernel's registers know outlasts the others' accesses
@@ -66,47 +64,27 @@ source_beside board words i a k (LoadAck seen) q h = refl
 source_beside board words i a k LoadTail q h = refl
 source_beside board words i a k (LoadSlot p) q h = refl
 source_beside board words i a k (Publish p) q h =
-    perform_other words (Exchange (slot_place board i p) (empty p) (full p (event_of board i a k))) q (λ e. subst IsBeside (sym e) h)
+    perform_other words (Exchange (slot_place board i p) (empty_word p) (event_word p (event_of board i a k))) q (λ e. subst IsBeside (sym e) h)
 source_beside board words i a k (MoveTail p) q h = perform_other words (Exchange (Tail (board.queue_of i)) p (p + 1)) q (λ e. subst IsBeside (sym e) h)
 source_beside board words i a k (HelpTail p) q h = perform_other words (Exchange (Tail (board.queue_of i)) p (p + 1)) q (λ e. subst IsBeside (sym e) h)
 source_beside board words i a k StoreSkip q h = perform_other words (Store (Src i) (src_word a (k + 1))) q (λ e. subst IsBeside (sym e) h)
 source_beside board words i a k StoreAccepted q h = perform_other words (Store (Src i) (src_word (a + 1) (k + 1))) q (λ e. subst IsBeside (sym e) h)
-
-mapped_more : (held : List Event) (e : Event) → map queue_event (held ++ e ∷ []) ≡ map queue_event held ++ queue_event e ∷ []
-mapped_more [] e = refl
-mapped_more (x ∷ held) e = ap (λ l. queue_event x ∷ l) (mapped_more held e)
-
-one_more : (n : ℕ) → n + 1 ≡ suc n
-one_more n = omega arith
 
 module _ (s : Setup) (m : Model) (i : ℕ) (known : i < length m.sources) (fed : source_thread s.program i < length m.threads) where
   -- a point of a source is an entry of the sources' side
   pub point_adds : (p : Point) → Adds (sides s) (rows_of.entry_of i p) (sides_of m) (sides_of (moved s.program s.readings m (entry_of_source i p)))
   point_adds points.Nothing = refl
   point_adds points.Pushed = record {
-    queue = subst (λ (l : List QueueEvent). Becomes (source_thread s.program i)
-        (record { held = l; finished = (thread_of m (source_thread s.program i)).finished; released = (thread_of m (source_thread s.program i)).released })
-        (sides_of m).queue (sides_of (moved s.program s.readings m (entry_of_source i points.Pushed))).queue)
-        (mapped_more (thread_of m (source_thread s.program i)).held (next_event s.readings m i))
-        (Becomes-queue m (source_thread s.program i) (pushed (next_event s.readings m i) (thread_of m (source_thread s.program i))) fed);
-    source = subst (λ (z : ℕ × ℕ). Becomes i (record { next = z.0; accepted = z.1; refused = false }) (sides_of m).source
-        (sides_of (moved s.program s.readings m (entry_of_source i points.Pushed))).source)
-        (λ k. (one_more (source_of m i).next k, one_more (source_of m i).accepted k)) (Becomes-source m i (with_accepted (source_of m i)) known);
+    queue = Becomes-queue m (source_thread s.program i) (pushed (next_event s.readings m i) (thread_of m (source_thread s.program i))) fed;
+    source = Becomes-source m i (with_accepted (source_of m i)) known;
   }
   point_adds points.Refused = record { queue = refl; source = Becomes-source m i (with_refused (source_of m i)) known }
-  point_adds points.Skipped = record {
-    queue = refl;
-    source = subst (λ n. Becomes i (record { next = n; accepted = (source_of m i).accepted; refused = false }) (sides_of m).source
-        (sides_of (moved s.program s.readings m (entry_of_source i points.Skipped))).source)
-        (one_more (source_of m i).next) (Becomes-source m i (with_skipped (source_of m i)) known);
-  }
+  point_adds points.Skipped = record { queue = refl; source = Becomes-source m i (with_skipped (source_of m i)) known }
 
   pub point_legal : (p : Point) → i < length s.program.sources → MayAdd (sides s) (rows_of.entry_of i p) (sides_of m) → MayNote s.program s.readings m (entry_of_source i p)
   point_legal points.Nothing lt h = tt
-  point_legal points.Pushed lt h =
-      (lt, h.0, omega (arith, h.1, places_same s (source_thread s.program i), length-map (thread_of m (source_thread s.program i)).held queue_event))
-  point_legal points.Refused lt h =
-      (lt, h.0, omega (arith, h.1, places_same s (source_thread s.program i), length-map (thread_of m (source_thread s.program i)).held queue_event))
+  point_legal points.Pushed lt h = (lt, h.0, h.1)
+  point_legal points.Refused lt h = (lt, h.0, h.1)
   point_legal points.Skipped lt h = (lt, h)
 
   -- it leaves the clock alone

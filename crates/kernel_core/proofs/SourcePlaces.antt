@@ -1,12 +1,12 @@
 -- Each place that a source wants is one of the board.
-use Rattle.std.proofs.Common.{ℕ, ◌%◌, ◌<◌, length, sym, subst, arith, mod-lt}
+use Rattle.std.proofs.Common.{ℕ, ◌%◌, ◌<◌, length, arith, mod-lt}
 use Rattle.fram_words.specs.Places.{Memory, place_of}
 use Rattle.prog_check.specs.Lookup.{thread_def, source_thread}
 use Rattle.push_core.specs.declared.row.Row.{Row}
 use Rattle.push_core.specs.declared.stage.Stage.{Stage}
 use Rattle.push_core.specs.declared.stage.Stage.TheVariants.{LoadSrc, LoadSlots, LoadAck, LoadTail, LoadSlot, Publish, MoveTail, HelpTail, StoreSkip, StoreAccepted}
 use Rattle.source_laws.specs.Rows.{access, access_at}
-use Rattle.source_laws.specs.Model.{places_for}
+use Rattle.source_laws.specs.Model.{places_for, Near}
 use Rattle.source_laws.specs.Kept.{Kept}
 use Rattle.source_laws.specs.Knows.{KnowsAt}
 use Rattle.ink_layout.specs.Shape.{IsOnBoard}
@@ -14,7 +14,6 @@ use Rattle.never_cut.specs.declared.model.Model.{Model}
 use Rattle.kernel_core.specs.Board.{Setup, sides}
 use Rattle.kernel_core.specs.Views.{seen}
 use Rattle.kernel_core.specs.Holds.{IsSetup}
-use Rattle.kernel_core.proofs.Sides.{places_same}
 
 -- the slot to load in the boot is one of the queue
 abbrev IsSlotOf : ℕ → Stage → Type 0
@@ -26,7 +25,7 @@ slot_there : (s : Setup) (i p : ℕ) → IsSetup s → i < length s.program.sour
 slot_there s i p g lt =
     let known = g.accepted.sources i lt in
     let few = (g.accepted.threads (source_thread s.program i) known).queue_least in
-    (known, subst (λ n. p % n < (thread_def s.program (source_thread s.program i)).queue) (sym (places_same s (source_thread s.program i))) (mod-lt p (omega arith)))
+    (known, mod-lt p (omega arith))
 
 stage_on : (s : Setup) (i a k : ℕ) (stage : Stage) → IsSetup s → i < length s.program.sources → IsSlotOf (thread_def s.program (source_thread s.program i)).queue stage →
     IsOnBoard s.program (place_of (access_at (sides s) i a k stage))
@@ -41,7 +40,7 @@ stage_on s i a k (HelpTail p) g lt h = g.accepted.sources i lt
 stage_on s i a k StoreSkip g lt h = lt
 stage_on s i a k StoreAccepted g lt h = lt
 
-slot_known : (i places readings : ℕ) (n : Rattle.source_laws.specs.Model.Near) (a k : ℕ) (stage : Stage) → KnowsAt i places readings n a k stage → IsSlotOf places stage
+slot_known : (i places readings : ℕ) (n : Near) (a k : ℕ) (stage : Stage) → KnowsAt i places readings n a k stage → IsSlotOf places stage
 slot_known i places readings n a k (LoadSlots slot found) h = h.1
 slot_known i places readings n a k _ h = tt
 
@@ -49,5 +48,4 @@ pub source_on : (s : Setup) (words : Memory) (m : Model) (rows : ℕ → Row) (i
     IsOnBoard s.program (place_of (access (sides s) i (rows i)))
 source_on s words m rows i g lt h =
     stage_on s i (rows i).accepted (rows i).next (rows i).stage g lt
-    (subst (λ n. IsSlotOf n (rows i).stage) (places_same s (source_thread s.program i))
-    (slot_known i (places_for (sides s) i) _ _ (rows i).accepted (rows i).next (rows i).stage (h.sources i).knows))
+    (slot_known i (places_for (sides s) i) _ _ (rows i).accepted (rows i).next (rows i).stage (h.sources i).knows)

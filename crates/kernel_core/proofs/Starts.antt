@@ -17,7 +17,6 @@ use Rattle.ink_layout.specs.Shape.{shape_of, words_of}
 use Rattle.ink_layout.specs.Addresses.{queue_place}
 use Rattle.ink_layout.proofs.Regions.{below}
 use Rattle.ink_layout.proofs.Bounds.{few_words}
-use Rattle.kernel_core.proofs.Sides.{places_same}
 use Rattle.ink_layout.specs.Image.{IsFirstImage}
 use Rattle.ink_layout.specs.Layouts.{IsLayout}
 use Rattle.job_parts.specs.Job.{JobParts, IsJob}
@@ -45,15 +44,14 @@ pub right_port : (job : JobParts) → IsAccepted job.program → (i : ℕ) → i
 right_port job accepted i known =
     let there = accepted.sources i known in
     let queue = accepted.threads (source_thread job.program i) there in
-    let same = places_same (setup_of job) (source_thread job.program i) in
     record {
       source = let few = accepted.counts.sources in omega arith;
-      some = omega (arith, same, queue.queue_least);
-      no_more = omega (arith, same, queue.queue);
+      some = omega (arith, queue.queue_least);
+      no_more = queue.queue;
       slots =
           let low : address (shape_of job.program) (Slot (source_thread job.program i) 0) < words_of (shape_of job.program) = below job.program (Slot (source_thread job.program i) 0) (there, omega (arith, queue.queue_least)) in
           let few = few_words job.program accepted in
-          omega (arith, same, queue.queue);
+          omega (arith, queue.queue);
     }
 
 -- where the words of a source stand, by the layout of its program
@@ -66,7 +64,7 @@ module _ (job : JobParts) (l : Layout) (i : ℕ) (accepted : IsAccepted job.prog
       let there = accepted.sources i known in
       let slots : (queue_place l t).slots ≡ address (shape_of job.program) (Slot t 0) =
       (let e : (queue_place l t).slots ≡ (queue_place l t).slots + 0 = omega arith in e) ∙ layout.addresses (Slot t 0) (there, let some = (accepted.threads t there).queue_least in omega arith) in
-      λ k. record { tail = layout.addresses (Tail t) there k; slots = slots k; places = (layout.places t there ∙ sym (places_same (setup_of job) t)) k }
+      λ k. record { tail = layout.addresses (Tail t) there k; slots = slots k; places = layout.places t there k }
 
   pub port_is : record { source = record { 0 = i }; queue = queue_place l t; ack = l.acks + i; src = l.srcs + i } ≡ port_of (sides (setup_of job)) i
   port_is = λ k. record { source = record { 0 = i }; queue = queue_is k; ack = layout.addresses (Ack i) known k; src = layout.addresses (Src i) known k }

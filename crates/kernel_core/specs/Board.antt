@@ -13,7 +13,7 @@ use Rattle.fram_words.specs.Words.{performed, address_of}
 use Rattle.fram_words.specs.Accesses.{at_address}
 use Rattle.ink_layout.specs.Shape.{shape_of}
 use Rattle.ink_layout.specs.Points.{entry_of_point}
-use Rattle.prog_check.specs.Lookup.{source_thread}
+use Rattle.prog_check.specs.Lookup.{thread_def, source_thread}
 use Rattle.push_core.specs.declared.row.Row.{Row}
 use Rattle.push_core.specs.declared.point.Point.{Point}
 use Rattle.push_core.specs.declared.point.Point.TheVariants as points
@@ -38,7 +38,7 @@ shape s = shape_of s.program
 
 -- the run as the sources see it
 abbrev pub sides : Setup → sources.Board
-sides s = record { shape = shape s; queue_of = source_thread s.program; readings = readings_of s.readings }
+sides s = record { shape = shape s; places = λ t. (thread_def s.program t).queue; queue_of = source_thread s.program; readings = readings_of s.readings }
 
 -- the charges from 0 on; the first so many have begun
 pub record Board : Type 0 where

@@ -2,13 +2,11 @@ pub mod Threads
 pub mod Privates
 pub mod Blocks
 pub mod Slots
-pub mod Queues
 pub mod Releases
 pub mod Scans
 pub mod Follows
 pub mod Journals
 pub mod TaskRuns
-pub mod Unsettled
 pub mod Outputs
 pub mod Picks
 pub mod Beginnings

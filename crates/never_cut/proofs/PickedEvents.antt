@@ -11,7 +11,7 @@ use Rattle.ink_layout.specs.declared.pick.Pick.{Pick}
 use Rattle.never_cut.specs.declared.model.Model.{Model}
 use Rattle.never_cut.specs.State.{thread_of, pipe_of}
 use Rattle.never_cut.specs.Entries.{Readings}
-use Rattle.never_cut.specs.Stands.{event_at}
+use Rattle.push_core.specs.Queue.{event_at}
 use Rattle.never_cut.specs.Sound.{IsSound, IsSoundPipe, IsQueued, IsServed, IsChain}
 use Rattle.never_cut.specs.Picked.{IsPicked}
 use Rattle.never_cut.proofs.Picks.{pending-running}

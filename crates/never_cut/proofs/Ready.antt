@@ -17,7 +17,7 @@ use Rattle.never_cut.specs.State.{thread_of, pipe_of, is_running, no_pipe}
 use Rattle.never_cut.specs.Pending.{pending}
 use Rattle.never_cut.specs.Commit.{taken_from, moved_on}
 use Rattle.never_cut.specs.Entries.{Readings}
-use Rattle.never_cut.specs.Stands.{event_at}
+use Rattle.push_core.specs.Queue.{event_at}
 use Rattle.never_cut.proofs.Picks.{pending-running}
 use Rattle.never_cut.proofs.Beginnings.{Begins, begins}
 use Rattle.never_cut.proofs.SoundParts.{IsServedBy, PipesSound, TimersSound, HasSoundParts, taken_in}

@@ -9,14 +9,15 @@ use Rattle.push_core.specs.Slots.{empty_word}
 use Rattle.prog_check.specs.Lookup.{thread_def}
 use Rattle.never_cut.specs.declared.model.Model.{Model}
 use Rattle.never_cut.specs.declared.thread_model.ThreadModel.{ThreadModel}
-use Rattle.never_cut.specs.State.{thread_of, with_thread}
+use Rattle.never_cut.specs.State.{thread_of, queue_of, with_thread}
 use Rattle.never_cut.specs.Commit.{outputs_of}
 use Rattle.never_cut.specs.Entries.{released}
-use Rattle.never_cut.specs.Stands.{Saved, saved, flag, written_word, taken_word, timer_word, period_word, slots_of, published, StandsQueue, StandsPrivate}
+use Rattle.never_cut.specs.Stands.{Saved, saved, flag, written_word, taken_word, timer_word, period_word, slots_of, StandsPrivate}
+use Rattle.push_core.specs.Queue.{published, StandsQueue}
+use Rattle.push_core.proofs.Queues.{queue_same, queue_release}
 use Rattle.never_cut.specs.Actors.{StandsForKernel}
 use Rattle.never_cut.proofs.Threads.{thread_of-with_same, thread_of-with_other}
 use Rattle.never_cut.proofs.Privates.{SamePrivately, private_stays, slot_blocks}
-use Rattle.never_cut.proofs.Queues.{queue-released}
 
 -- the state after the release of thread t's first event
 abbrev pub after_release : Model → ℕ → Model
@@ -90,7 +91,7 @@ emptied_slots words program m t =
       elsewhere = λ k ne. store-other words (Slot t (r % places)) (Slot t k) (empty_word (r + places)) (λ e. ne (sym (cc)));
     }
 
-published-released : (x : ThreadModel) → 0 < length x.held → published (released x) ≡ published x
+published-released : (x : ThreadModel) → 0 < length x.held → published (queue_of (released x)) ≡ published (queue_of x)
 published-released x some = let len : length (drop 1 x.held) ≡ length x.held - 1 = length-drop 1 x.held in omega arith
 
 pub release_queues : (words : Memory) (program : Program) (m : Model) (t : ℕ) → t < length m.threads → 0 < length (thread_of m t).held →
@@ -102,27 +103,22 @@ release_queues words program m t lt some h known =
     record {
       queues = λ u within.
           elim (cases_eq u t) [
-            | inl e ↦ subst (λ z. StandsQueue (thread_def program z).queue (slots_of new z) (new (Tail z)) (thread_of (after_release m t) z)) (sym e)
-                (subst (λ x. StandsQueue places (slots_of new t) (words (Tail t)) x) (sym (release_same m t lt))
-                (queue-released places (slots_of words t) (slots_of new t) (words (Tail t)) (thread_of m t) some (emptied_slots words program m t) (h.queues t known)))
+            | inl e ↦ subst (λ z. StandsQueue (thread_def program z).queue (slots_of new z) (new (Tail z)) (queue_of (thread_of (after_release m t) z))) (sym e)
+                (subst (λ x. StandsQueue places (slots_of new t) (words (Tail t)) (queue_of x)) (sym (release_same m t lt))
+                (queue_release (h.queues t known) some (emptied_slots words program m t)))
             | inr ne ↦
                 let q = h.queues u within in
                 let other : (k : ℕ) → new (Slot u k) ≡ words (Slot u k) =
                 λ k. store-other words (Slot t (r % places)) (Slot u k) (empty_word (r + places)) (λ e. ne (sym (cc))) in
-                subst (λ x. StandsQueue (thread_def program u).queue (slots_of new u) (words (Tail u)) x) (sym (release_other m t u ne))
-                (record {
-                  room = q.room;
-                  full = λ k l. other (((thread_of m u).released + k) % (thread_def program u).queue) ∙ q.full k l;
-                  free = λ s a b. other (s % (thread_def program u).queue) ∙ q.free s a b;
-                  tail_near = q.tail_near;
-                })
+                subst (λ x. StandsQueue (thread_def program u).queue (slots_of new u) (words (Tail u)) (queue_of x)) (sym (release_other m t u ne))
+                (queue_same q other refl refl)
           ];
       small = λ u within.
           elim (cases_eq u t) [
             | inl e ↦
-                let same : published (thread_of (after_release m t) t) ≡ published (thread_of m t) = ap published (release_same m t lt) ∙ published-released (thread_of m t) some in
-                subst (λ z. published (thread_of (after_release m t) z) < 2 ^ 20) (sym e) (rw same (h.small t known))
-            | inr ne ↦ subst (λ x. published x < 2 ^ 20) (sym (release_other m t u ne)) (h.small u within)
+                let same : published (queue_of (thread_of (after_release m t) t)) ≡ published (queue_of (thread_of m t)) = ap (λ x. published (queue_of x)) (release_same m t lt) ∙ published-released (thread_of m t) some in
+                subst (λ z. published (queue_of (thread_of (after_release m t) z)) < 2 ^ 20) (sym e) (rw same (h.small t known))
+            | inr ne ↦ subst (λ x. published (queue_of x) < 2 ^ 20) (sym (release_other m t u ne)) (h.small u within)
           ];
       clock = h.clock;
     }

@@ -22,7 +22,7 @@ use Rattle.never_cut.specs.Entries.{Readings, Legal, IsCalm, effect, looked, nex
 use Rattle.never_cut.specs.Journal.{after, IsLegal}
 use Rattle.never_cut.specs.Pending.{first_of}
 use Rattle.never_cut.specs.Sound.{IsSound, IsServed}
-use Rattle.never_cut.specs.Stands.{event_at}
+use Rattle.push_core.specs.Queue.{event_at}
 use Rattle.never_cut.specs.Laws.{gathered, queued_by, finished_by, EachEventOnce}
 use Rattle.never_cut.proofs.Threads.{kept-set}
 use Rattle.never_cut.proofs.Commits.{Serves, serves, thread_committed, committed-own, commit-other, commit-count}

@@ -3,29 +3,29 @@ use Rattle.std.proofs.Common.{◌≡◌, ◌≢◌, ℕ, ◌+◌, ◌-◌, ◌%�
 use Rattle.std.proofs.lemmas.Bool.{cases_lt}
 use Rattle.std.proofs.Math.Nat.{add-mod_right}
 use Rattle.ink_base.specs.declared.event.Event.{Event}
-use Rattle.ink_base.specs.declared.event.Origin.{Origin}
-use Rattle.ink_base.specs.declared.event.Origin.TheVariants as origins
 use Rattle.task_isa.specs.declared.program.Program.{Program}
 use Rattle.fram_words.specs.Places.{Memory, Tail}
 use Rattle.push_core.specs.Slots.{slot_in}
 use Rattle.push_core.specs.declared.slot.Slot as slot
 use Rattle.push_core.specs.declared.slot.Slot.TheVariants.{Empty, Full}
-use Rattle.push_core.proofs.Slots.{slot_in-full, slot_in-empty}
-use Rattle.prog_check.specs.Lookup.{thread_def}
+use Rattle.push_core.proofs.Slots.{slot_in-empty}
+use Rattle.push_core.proofs.Events.{queued_fits, slot_in-event_word}
+use Rattle.prog_check.specs.Lookup.{thread_def, source_thread}
 use Rattle.never_cut.specs.declared.model.Model.{Model}
 use Rattle.never_cut.specs.declared.thread_model.ThreadModel.{ThreadModel}
-use Rattle.never_cut.specs.State.{thread_of}
+use Rattle.never_cut.specs.State.{thread_of, queue_of}
 use Rattle.never_cut.specs.Entries.{Readings}
-use Rattle.never_cut.specs.Stands.{StandsQueue, event_word, event_at, published, slots_of}
+use Rattle.never_cut.specs.Stands.{slots_of}
+use Rattle.push_core.specs.Queue.{StandsQueue, event_slot, event_at, published}
 use Rattle.never_cut.specs.Sound.{IsQueued}
 use Rattle.never_cut.specs.Steps.{Background}
 
 -- the slots of a thread's queue stand for its events, and all numbers fit their bits
 pub record IsReadable (program : Program) (t places : ℕ) (slot : ℕ → ℕ) (tail : ℕ) (x : ThreadModel) : Type 0 where
-  pub stands : StandsQueue places slot tail x
+  pub stands : StandsQueue places slot tail (queue_of x)
   pub some : 0 < places
   pub few : places ≤ 32
-  pub small : published x < 2 ^ 20
+  pub small : published (queue_of x) < 2 ^ 20
   pub queued : (k : ℕ) → k < length x.held → IsQueued program t (event_at x.held k)
   pub sources : length program.sources ≤ 16
 
@@ -40,47 +40,32 @@ readable program readings words m t b known = record {
   sources = b.accepted.counts.sources;
 }
 
--- what a slot shows of an event
-abbrev pub slot_of : ℕ → Event → Option slot.Slot
-slot_of p e = elim e.origin [
-  | origins.Source source count ↦ Some (Full p source count e.value)
-  | origins.Pipe pipe item ↦ None
-  | origins.Timer timer deadline ↦ None
-]
-
-event_shown : (program : Program) (t p : ℕ) (origin : Origin) (value : ℕ) → length program.sources ≤ 16 → p < 2 ^ 21 →
-    IsQueued program t (record { origin = origin; value = value }) →
-    slot_in (event_word p (record { origin = origin; value = value })) ≡ slot_of p (record { origin = origin; value = value })
-event_shown program t p (origins.Source source count) value few lp h =
-    slot_in-full p source count value (record { position_fits = lp; source_fits = omega (arith, h.0); count_fits = omega (arith, h.2) }) h.3
-event_shown program t p (origins.Pipe pipe item) value few lp h = absurd h
-event_shown program t p (origins.Timer timer deadline) value few lp h = absurd h
-
 -- the slot of the k-th held event
 pub held_slot : (program : Program) (t places : ℕ) (slot : ℕ → ℕ) (tail k : ℕ) (x : ThreadModel) → IsReadable program t places slot tail x → k < length x.held →
-    slot_in (slot ((x.released + k) % places)) ≡ slot_of (x.released + k) (event_at x.held k)
+    slot_in (slot ((x.released + k) % places)) ≡ Some (event_slot (x.released + k) (event_at x.held k))
 held_slot program t places slot tail k x h lt =
-    let e = event_at x.held k in
-    let small : published x < 2 ^ 20 = h.small in
-    ap slot_in (h.stands.full k lt) ∙ event_shown program t (x.released + k) e.origin e.value h.sources (omega arith) (h.queued k lt)
+    let e : Event = event_at x.held k in
+    let small : published (queue_of x) < 2 ^ 20 = h.small in
+    ap slot_in (h.stands.full_slots k lt)
+    ∙ slot_in-event_word (x.released + k) e (queued_fits (length program.sources) (source_thread program) t (x.released + k) e h.sources (omega arith) (h.queued k lt))
 
 -- and a free one
 pub free_slot : (program : Program) (t places : ℕ) (slot : ℕ → ℕ) (tail s : ℕ) (x : ThreadModel) → IsReadable program t places slot tail x →
-    published x ≤ s → s < x.released + places → slot_in (slot (s % places)) ≡ Some (Empty s)
+    published (queue_of x) ≤ s → s < x.released + places → slot_in (slot (s % places)) ≡ Some (Empty s)
 free_slot program t places slot tail s x h above below =
-    let small : published x < 2 ^ 20 = h.small in
+    let small : published (queue_of x) < 2 ^ 20 = h.small in
     let few : places ≤ 32 = h.few in
-    ap slot_in (h.stands.free s above below) ∙ slot_in-empty s (omega arith)
+    ap slot_in (h.stands.empty_slots s above below) ∙ slot_in-empty s (omega arith)
 
 -- the slot of the first event
 pub first_slot : (program : Program) (t places : ℕ) (slot : ℕ → ℕ) (tail : ℕ) (x : ThreadModel) (e : Event) (rest : List Event) → IsReadable program t places slot tail x →
-    x.held ≡ e ∷ rest → slot_in (slot (x.released % places)) ≡ slot_of x.released e
+    x.held ≡ e ∷ rest → slot_in (slot (x.released % places)) ≡ Some (event_slot x.released e)
 first_slot program t places slot tail x e rest h is =
     let some : 0 < length x.held = rw is (omega arith) in
     let at : x.released + 0 ≡ x.released = omega arith in
     let here : event_at x.held 0 ≡ e = ap (λ l. event_at l 0) is in
-    subst (λ (p : ℕ). slot_in (slot (p % places)) ≡ slot_of p e) at
-    (subst (λ z. slot_in (slot ((x.released + 0) % places)) ≡ slot_of (x.released + 0) z) here (held_slot program t places slot tail 0 x h some))
+    subst (λ (p : ℕ). slot_in (slot (p % places)) ≡ Some (event_slot p e)) at
+    (subst (λ z. slot_in (slot ((x.released + 0) % places)) ≡ Some (event_slot (x.released + 0) z)) here (held_slot program t places slot tail 0 x h some))
 
 -- the next slot of an empty queue
 pub empty_slot : (program : Program) (t places : ℕ) (slot : ℕ → ℕ) (tail : ℕ) (x : ThreadModel) → IsReadable program t places slot tail x →
@@ -96,11 +81,6 @@ ShowsOther p (Some (Full q source count value)) = q ≢ p
 ShowsOther p (Some (Empty q)) = Unit {0}
 ShowsOther p None = Unit {0}
 
-shows_other : (q p : ℕ) (origin : Origin) (value : ℕ) → q ≢ p → ShowsOther p (slot_of q (record { origin = origin; value = value }))
-shows_other q p (origins.Source source count) value ne = ne
-shows_other q p (origins.Pipe pipe item) value ne = tt
-shows_other q p (origins.Timer timer deadline) value ne = tt
-
 -- the slot of an event that was released holds a later event, or is empty
 pub old_slot : (program : Program) (t places : ℕ) (slot : ℕ → ℕ) (tail p : ℕ) (x : ThreadModel) → IsReadable program t places slot tail x →
     p + 1 ≡ x.released → ShowsOther p (slot_in (slot (p % places)))
@@ -112,7 +92,6 @@ old_slot program t places slot tail p x h is =
     subst (λ n. ShowsOther p (slot_in (slot n))) turn
     (elim (cases_lt k (length x.held)) [
       | inl held ↦
-          let e = event_at x.held k in
-          subst (ShowsOther p) (sym (held_slot program t places slot tail k x h held)) (shows_other (x.released + k) p e.origin e.value (λ same. omega arith))
+          subst (ShowsOther p) (sym (held_slot program t places slot tail k x h held)) (λ same. omega arith)
       | inr free ↦ subst (ShowsOther p) (sym (free_slot program t places slot tail (x.released + k) x h (omega arith) (omega arith))) tt
     ])

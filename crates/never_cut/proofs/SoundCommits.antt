@@ -13,7 +13,7 @@ use Rattle.task_isa.specs.declared.program.Task.{Task}
 use Rattle.task_isa.specs.declared.task_end.TaskEnd.{TaskEnd}
 use Rattle.task_isa.specs.Meaning.{Room, room_of}
 use Rattle.prog_check.specs.Accepted.{IsAccepted}
-use Rattle.prog_check.specs.Lookup.{thread_def, task_def, no_task_def, first_task}
+use Rattle.prog_check.specs.Lookup.{thread_def, task_def, no_task_def, first_task, source_thread}
 use Rattle.never_cut.specs.declared.model.Model.{Model}
 use Rattle.never_cut.specs.declared.thread_model.ThreadModel.{ThreadModel}
 use Rattle.never_cut.specs.declared.pipe_model.PipeModel.{PipeModel}
@@ -22,8 +22,8 @@ use Rattle.never_cut.specs.declared.scan_model.ScanModel.{ScanModel}
 use Rattle.never_cut.specs.State.{thread_of, is_running}
 use Rattle.never_cut.specs.Pending.{pending}
 use Rattle.never_cut.specs.Commit.{outputs_of, committed, ended, consumed, taken_from, moved_on, with_sends, with_timers, stamped, with_first, thread_after, end_at, start_at, task_at, is_overdue, expired, expired_after}
-use Rattle.never_cut.specs.Entries.{Readings, Legal, effect}
-use Rattle.never_cut.specs.Sound.{unsettled_into}
+use Rattle.never_cut.specs.Entries.{Readings, Legal, effect, readings_of}
+use Rattle.never_cut.specs.Sound.{unsettled_into, sources_in}
 use Rattle.never_cut.proofs.Outputs.{of_thread, outputs-own, outputs-other, length-stamped}
 use Rattle.never_cut.proofs.TaskRuns.{IsFittingEnd, task_fits}
 use Rattle.never_cut.proofs.SoundParts.{IsSoundAt, IsServedBy, ThreadSound, PipesSound, TimersSound, HasSoundParts, taken_in}
@@ -32,7 +32,7 @@ use Rattle.never_cut.proofs.SoundQueues.{thread_changes}
 use Rattle.never_cut.proofs.SoundPipes.{sent_count, rooms_at, sent_taken, sends_sound}
 use Rattle.never_cut.proofs.SoundTimers.{set_count, settings_sound}
 use Rattle.never_cut.proofs.SoundThreads.{SameTaken, settled_at, other_at, first_at, first_keeps, after_at, expired_at}
-use Rattle.never_cut.proofs.Unsettled.{unsettled_least}
+use Rattle.push_core.proofs.Unsettled.{unsettled_least}
 use Rattle.never_cut.proofs.Ready.{IsReady, ready_running, ready_idle}
 
 -- the state after a commit of thread t, which made these of the thread, the pipes, the timers and the outputs
@@ -57,10 +57,10 @@ made_threads program readings m t x pipes timers outputs h known new outs taken 
     elim (cases_eq u t) [
       | inl same ↦ subst (λ v. ThreadSound program readings next v) (sym same)
           (subst (λ (z : ThreadModel). IsSoundAt program (taken_in pipes) t z (unsettled_into program readings next t (length program.sources)) (length (of_thread t outputs)) m.clock) (sym changes.0)
-          (settled_at program (taken_in pipes) t x _ _ _ _ (unsettled_least program readings m next t (length program.sources) (λ j. omega arith)) new))
+          (settled_at program (taken_in pipes) t x _ _ _ _ (unsettled_least (source_thread program) (readings_of readings) (sources_in m) (sources_in next) t (length program.sources) (λ j. omega arith)) new))
       | inr apart ↦ subst (λ (z : ThreadModel × ℕ). IsSoundAt program (taken_in pipes) u z.0 (unsettled_into program readings next u (length program.sources)) z.1 m.clock)
           (sym (λ k. (changes.1 u apart k, outs u apart k)))
-          (settled_at program (taken_in pipes) u (thread_of m u) _ _ _ _ (unsettled_least program readings m next u (length program.sources) (λ j. omega arith))
+          (settled_at program (taken_in pipes) u (thread_of m u) _ _ _ _ (unsettled_least (source_thread program) (readings_of readings) (sources_in m) (sources_in next) u (length program.sources) (λ j. omega arith))
           (other_at program (taken_in m.pipes) (taken_in pipes) u (thread_of m u) _ _ _ (taken u apart) (h.threads u lt)))
     ]
 

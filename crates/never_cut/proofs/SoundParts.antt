@@ -11,10 +11,10 @@ use Rattle.never_cut.specs.declared.model.Model.{Model}
 use Rattle.never_cut.specs.declared.thread_model.ThreadModel.{ThreadModel}
 use Rattle.never_cut.specs.declared.pipe_model.PipeModel.{PipeModel}
 use Rattle.never_cut.specs.declared.timer_model.TimerModel.{TimerModel}
-use Rattle.never_cut.specs.State.{thread_of, no_pipe, no_timer}
+use Rattle.never_cut.specs.State.{thread_of, queue_of, no_pipe, no_timer}
 use Rattle.never_cut.specs.Commit.{outputs_of}
 use Rattle.never_cut.specs.Entries.{Readings, IsCalm}
-use Rattle.never_cut.specs.Stands.{published, event_at}
+use Rattle.push_core.specs.Queue.{published, event_at}
 use Rattle.never_cut.specs.Sound.{IsSound, IsSoundThread, IsSoundSource, IsQueued, unsettled_into}
 
 -- how many items were taken from each pipe
@@ -39,7 +39,7 @@ pub record IsChainAt (program : Program) (taken : ℕ → ℕ) (t : ℕ) (x : Th
 
 -- a thread, with so many items taken from the pipes, so many readings left to its sources, so many outputs, and at this clock
 pub record IsSoundAt (program : Program) (taken : ℕ → ℕ) (t : ℕ) (x : ThreadModel) (left outs clock : ℕ) : Type 0 where
-  pub positions : published x + left ≤ greatest_tail
+  pub positions : published (queue_of x) + left ≤ greatest_tail
   pub queued : (k : ℕ) → k < length x.held → IsQueued program t (event_at x.held k)
   pub finished : x.finished ≡ true → (0 < length x.held) × (x.running ≡ None)
   pub idle : x.running ≡ None → x.event ≡ None

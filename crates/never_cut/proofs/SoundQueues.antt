@@ -17,11 +17,11 @@ use Rattle.never_cut.specs.declared.source_model.SourceModel.{SourceModel}
 use Rattle.never_cut.specs.State.{thread_of, source_of, no_thread, with_thread, with_source}
 use Rattle.never_cut.specs.Commit.{outputs_of}
 use Rattle.never_cut.specs.Entries.{Readings, readings_of, Legal, effect, IsCalm, next_event, pushed, released, with_accepted}
-use Rattle.never_cut.specs.Stands.{event_at}
-use Rattle.never_cut.specs.Sound.{IsQueued, unsettled_into}
+use Rattle.push_core.specs.Queue.{event_at}
+use Rattle.never_cut.specs.Sound.{IsQueued, unsettled_into, sources_in}
 use Rattle.never_cut.specs.Within.{AreShort}
 use Rattle.never_cut.proofs.Threads.{thread_of-with_same, thread_of-with_other}
-use Rattle.never_cut.proofs.Unsettled.{next_of, unsettled_least, unsettled_one}
+use Rattle.push_core.proofs.Unsettled.{unsettled_least, unsettled_one}
 use Rattle.never_cut.proofs.SoundThreads.{settled_at}
 use Rattle.never_cut.proofs.SoundParts.{IsSoundAt, IsServedBy, ThreadSound, HasSoundParts, taken_in}
 use Rattle.never_cut.proofs.SoundSources.{source_same, settles_more, sources_with, source_made, sources_same}
@@ -111,9 +111,9 @@ push_thread program readings m i t u e of known there left queued h lt =
     elim (cases_eq u t) [
       | inl same ↦ subst (λ v. ThreadSound program readings (push_state m i t e) v) (sym same)
           (subst (λ (z : ThreadModel). IsSoundAt program (taken_in m.pipes) t z (unsettled_into program readings next t (length program.sources)) (length (outputs_of m t)) m.clock) (sym changes.0)
-          (pushed_at program (taken_in m.pipes) t (thread_of m t) e _ _ _ _ (unsettled_one program readings m next t (length program.sources) i known of settles.0 left settles.1) (h.threads t there) queued))
+          (pushed_at program (taken_in m.pipes) t (thread_of m t) e _ _ _ _ (unsettled_one (source_thread program) (readings_of readings) (sources_in m) (sources_in next) t (length program.sources) i known of settles.0 left settles.1) (h.threads t there) queued))
       | inr apart ↦ subst (λ (z : ThreadModel). IsSoundAt program (taken_in m.pipes) u z (unsettled_into program readings next u (length program.sources)) (length (outputs_of m u)) m.clock) (sym (changes.1 u apart))
-          (settled_at program (taken_in m.pipes) u (thread_of m u) _ _ _ _ (unsettled_least program readings m next u (length program.sources) settles.1) (h.threads u lt))
+          (settled_at program (taken_in m.pipes) u (thread_of m u) _ _ _ _ (unsettled_least (source_thread program) (readings_of readings) (sources_in m) (sources_in next) u (length program.sources) settles.1) (h.threads u lt))
     ]
 
 push_with : (program : Program) (readings : Readings) (m : Model) (i t : ℕ) (e : Event) → source_thread program i ≡ t → i < length program.sources → t < length program.threads →
@@ -181,9 +181,9 @@ release_sound program readings m t h legal =
         | inl same ↦ subst (λ v. ThreadSound program readings next v) (sym same)
             (subst (λ z. IsSoundAt program (taken_in m.pipes) t.0 z (unsettled_into program readings next t.0 (length program.sources)) (length (outputs_of m t.0)) m.clock) (sym changes.0)
             (released_at program (taken_in m.pipes) t.0 (thread_of m t.0) _ _ _
-            (settled_at program (taken_in m.pipes) t.0 (thread_of m t.0) _ _ _ _ (unsettled_least program readings m next t.0 (length program.sources) (λ j. omega arith)) (h.threads t.0 legal.0)) legal.1))
+            (settled_at program (taken_in m.pipes) t.0 (thread_of m t.0) _ _ _ _ (unsettled_least (source_thread program) (readings_of readings) (sources_in m) (sources_in next) t.0 (length program.sources) (λ j. omega arith)) (h.threads t.0 legal.0)) legal.1))
         | inr apart ↦ subst (λ z. IsSoundAt program (taken_in m.pipes) u z (unsettled_into program readings next u (length program.sources)) (length (outputs_of m u)) m.clock) (sym (changes.1 u apart))
-            (settled_at program (taken_in m.pipes) u (thread_of m u) _ _ _ _ (unsettled_least program readings m next u (length program.sources) (λ j. omega arith)) (h.threads u lt))
+            (settled_at program (taken_in m.pipes) u (thread_of m u) _ _ _ _ (unsettled_least (source_thread program) (readings_of readings) (sources_in m) (sources_in next) u (length program.sources) (λ j. omega arith)) (h.threads u lt))
       ];
       pipes = h.pipes;
       timers = h.timers;

@@ -10,11 +10,13 @@ use Rattle.never_cut.specs.declared.model.Model.{Model}
 use Rattle.never_cut.specs.declared.thread_model.ThreadModel.{ThreadModel}
 use Rattle.never_cut.specs.declared.scan_model.ScanModel.{ScanModel}
 use Rattle.never_cut.specs.State.{thread_of, no_thread}
-use Rattle.never_cut.specs.Entries.{Readings, Legal, effect, IsCalm, looked}
+use Rattle.never_cut.specs.Entries.{Readings, Legal, effect, IsCalm, looked, readings_of}
 use Rattle.never_cut.proofs.SoundParts.{HasSoundParts, taken_in}
 use Rattle.never_cut.proofs.SoundSources.{sources_same}
 use Rattle.never_cut.proofs.SoundThreads.{settled_at}
-use Rattle.never_cut.proofs.Unsettled.{unsettled_least}
+use Rattle.push_core.proofs.Unsettled.{unsettled_least}
+use Rattle.prog_check.specs.Lookup.{source_thread}
+use Rattle.never_cut.specs.Sound.{sources_in}
 
 pub tick_sound : (program : Program) (readings : Readings) (m : Model) (by : ℕ) → HasSoundParts program readings m → Legal program readings m (Tick by) →
     HasSoundParts program readings (effect program readings m (Tick by))
@@ -25,7 +27,7 @@ tick_sound program readings m by h early =
       timers_count = h.timers_count;
       sources_count = h.sources_count;
       threads = λ t lt. let x = h.threads t lt in record {
-        positions = omega (arith, x.positions, unsettled_least program readings m (effect program readings m (Tick by)) t (length program.sources) (λ j. omega arith));
+        positions = omega (arith, x.positions, unsettled_least (source_thread program) (readings_of readings) (sources_in m) (sources_in (effect program readings m (Tick by))) t (length program.sources) (λ j. omega arith));
         queued = x.queued;
         finished = x.finished;
         idle = x.idle;
@@ -56,7 +58,7 @@ with_scan_sound program readings m o h right =
       pipes_count = h.pipes_count;
       timers_count = h.timers_count;
       sources_count = h.sources_count;
-      threads = λ t lt. settled_at program (taken_in m.pipes) t (thread_of m t) _ _ _ _ (unsettled_least program readings m (record m { scan = o }) t (length program.sources) (λ j. omega arith)) (h.threads t lt);
+      threads = λ t lt. settled_at program (taken_in m.pipes) t (thread_of m t) _ _ _ _ (unsettled_least (source_thread program) (readings_of readings) (sources_in m) (sources_in (record m { scan = o })) t (length program.sources) (λ j. omega arith)) (h.threads t lt);
       pipes = h.pipes;
       timers = h.timers;
       sources = sources_same readings m (record m { scan = o }) (length program.sources) refl h.sources;

@@ -8,10 +8,11 @@ use Rattle.never_cut.specs.declared.model.Model.{Model}
 use Rattle.never_cut.specs.declared.source_model.SourceModel.{SourceModel}
 use Rattle.never_cut.specs.State.{thread_of, source_of, no_source, with_source}
 use Rattle.never_cut.specs.Entries.{Readings, readings_of, Legal, effect, with_refused, with_skipped}
-use Rattle.never_cut.specs.Sound.{IsSoundSource}
-use Rattle.never_cut.proofs.Unsettled.{next_of, unsettled_least}
+use Rattle.never_cut.specs.Sound.{IsSoundSource, sources_in}
+use Rattle.push_core.proofs.Unsettled.{unsettled_least}
 use Rattle.never_cut.proofs.SoundThreads.{settled_at}
 use Rattle.never_cut.proofs.SoundParts.{HasSoundParts, taken_in}
+use Rattle.prog_check.specs.Lookup.{source_thread}
 
 pub source_same : (m : Model) (i : ℕ) (s : SourceModel) → i < length m.sources → source_of (with_source m i s) i ≡ s
 source_same m i s lt = get_or-set_same m.sources i s no_source lt
@@ -41,6 +42,10 @@ source_made readings m i s lt ordered within refused =
       refused = subst (λ (z : SourceModel). z.refused ≡ true → z.next < length (readings_of readings i)) (sym e) refused;
     }
 
+-- the next reading of one source
+abbrev pub next_of : Model → ℕ → ℕ
+next_of m i = (source_of m i).next
+
 -- a source that has settled no fewer readings
 pub settles_more : (m : Model) (i : ℕ) (s : SourceModel) → i < length m.sources → next_of m i ≤ s.next → (j : ℕ) → next_of m j ≤ next_of (with_source m i s) j
 settles_more m i s lt more j =
@@ -60,7 +65,7 @@ accepts_nothing program readings m i s lt h more new =
       timers_count = h.timers_count;
       sources_count = length-set m.sources i s ∙ h.sources_count;
       threads = λ t within. settled_at program (taken_in m.pipes) t (thread_of m t) _ _ _ _
-          (unsettled_least program readings m (with_source m i s) t (length program.sources) (settles_more m i s known more)) (h.threads t within);
+          (unsettled_least (source_thread program) (readings_of readings) (sources_in m) (sources_in (with_source m i s)) t (length program.sources) (settles_more m i s known more)) (h.threads t within);
       pipes = h.pipes;
       timers = h.timers;
       sources = sources_with readings m i (length program.sources) s known h.sources new;

@@ -9,18 +9,18 @@ use Rattle.task_isa.specs.declared.program.ThreadDef.{ThreadDef}
 use Rattle.task_isa.specs.declared.program.PipeDef.{PipeDef}
 use Rattle.push_core.specs.Table.{greatest_tail}
 use Rattle.prog_check.specs.Accepted.{IsAccepted}
-use Rattle.prog_check.specs.Lookup.{thread_def, pipe_def, no_thread_def, no_timer_def}
+use Rattle.prog_check.specs.Lookup.{thread_def, pipe_def, no_thread_def, no_timer_def, source_thread}
 use Rattle.never_cut.specs.declared.model.Model.{Model}
 use Rattle.never_cut.specs.declared.thread_model.ThreadModel.{ThreadModel}
 use Rattle.never_cut.specs.declared.pipe_model.PipeModel.{PipeModel}
 use Rattle.never_cut.specs.declared.source_model.SourceModel.{SourceModel}
-use Rattle.never_cut.specs.State.{thread_of, no_thread, no_pipe, no_timer, no_source, open_model, open_thread, open_pipe, open_timer, open_source}
+use Rattle.never_cut.specs.State.{thread_of, queue_of, no_thread, no_pipe, no_timer, no_source, open_model, open_thread, open_pipe, open_timer, open_source}
 use Rattle.never_cut.specs.Entries.{Readings, readings_of, Legal, effect}
 use Rattle.never_cut.specs.Journal.{after, IsLegal}
-use Rattle.never_cut.specs.Stands.{published}
-use Rattle.never_cut.specs.Sound.{IsSound, IsSoundSource, unsettled_into}
+use Rattle.push_core.specs.Queue.{published}
+use Rattle.never_cut.specs.Sound.{IsSound, IsSoundSource, unsettled_into, sources_in}
 use Rattle.never_cut.specs.Within.{AreShort}
-use Rattle.never_cut.proofs.Unsettled.{unsettled_bound}
+use Rattle.push_core.proofs.Unsettled.{unsettled_bound}
 use Rattle.never_cut.proofs.SoundParts.{IsSoundAt, ThreadSound, IsSoundPipeAt, IsSoundTimerAt, HasSoundParts, parts_of, sound_of, taken_in}
 use Rattle.never_cut.proofs.SoundSources.{refuse_sound, skip_sound}
 use Rattle.never_cut.proofs.SoundScans.{tick_sound, scan_sound, look_sound}
@@ -61,7 +61,7 @@ open_thread_sound program readings t accepted short lt =
     (record {
       positions =
           let few = accepted.counts.sources in
-          let bound = unsettled_bound program readings (open_model program) t (length program.sources) 65535 short in
+          let bound = unsettled_bound (source_thread program) (readings_of readings) (sources_in (open_model program)) t (length program.sources) 65535 short in
           omega arith;
       queued = λ k less. absurd (omega arith);
       finished = λ is. absurd (let clash : false ≡ true = is in cc);
@@ -124,5 +124,5 @@ sound_after program readings m (e ∷ journal) accepted short sound legal =
     sound_after program readings (effect program readings m e) journal accepted short (sound_step program readings m e accepted short sound legal.0) legal.1
 
 -- the positions of a queue fit their bits
-pub published_bound : (program : Program) (readings : Readings) (m : Model) (t : ℕ) → IsSound program readings m → t < length program.threads → published (thread_of m t) ≤ greatest_tail
+pub published_bound : (program : Program) (readings : Readings) (m : Model) (t : ℕ) → IsSound program readings m → t < length program.threads → published (queue_of (thread_of m t)) ≤ greatest_tail
 published_bound program readings m t h lt = let fits = (h.threads t lt).positions in omega arith

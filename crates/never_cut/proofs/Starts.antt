@@ -22,7 +22,7 @@ use Rattle.never_cut.specs.Entries.{Readings, readings_of, Legal, effect, fed_by
 use Rattle.never_cut.specs.Journal.{after, IsLegal}
 use Rattle.never_cut.specs.Sound.{IsSound, IsSoundSource, IsQueued}
 use Rattle.never_cut.specs.Start.{CanStart}
-use Rattle.never_cut.specs.Stands.{event_at}
+use Rattle.push_core.specs.Queue.{event_at}
 use Rattle.never_cut.specs.Within.{AreReadings, HasRoom, IsWithinThread, IsWithinSource, Lasts, LastsThread, is_scanning}
 use Rattle.never_cut.proofs.Commits.{commit-sources}
 use Rattle.never_cut.proofs.Lasting.{lasts_step, open_lasts}

@@ -7,11 +7,12 @@ use Rattle.ink_base.specs.declared.entry.Entry.TheVariants.{Push, Refuse, Skip, 
 use Rattle.task_isa.specs.declared.program.Program.{Program}
 use Rattle.fram_words.specs.Places.{Place, Code, Commit, Page, Log, Ring, Tail, Slot, Ack, Clock, Src, Memory, Access, Load, Store}
 use Rattle.push_core.specs.Slots.{empty_word}
+use Rattle.push_core.specs.Queue.{published, StandsQueue}
 use Rattle.prog_check.specs.Lookup.{thread_def}
 use Rattle.never_cut.specs.declared.model.Model.{Model}
 use Rattle.never_cut.specs.declared.thread_model.ThreadModel.{ThreadModel}
-use Rattle.never_cut.specs.State.{thread_of}
-use Rattle.never_cut.specs.Stands.{StandsQueue, slots_of, published}
+use Rattle.never_cut.specs.State.{thread_of, queue_of}
+use Rattle.never_cut.specs.Stands.{slots_of}
 
 -- the words that the kernel alone writes
 abbrev pub IsPrivate : Place → Type 0
@@ -57,8 +58,8 @@ pub record Follows (m next : Model) : Type 0 where
 
 -- what the kernel reads of the shared words: queues and clock stand for the state, and positions fit their bits
 pub record StandsForKernel (words : Memory) (program : Program) (m : Model) : Type 0 where
-  pub queues : (t : ℕ) → t < length program.threads → StandsQueue (thread_def program t).queue (slots_of words t) (words (Tail t)) (thread_of m t)
-  pub small : (t : ℕ) → t < length program.threads → published (thread_of m t) < 2 ^ 20
+  pub queues : (t : ℕ) → t < length program.threads → StandsQueue (thread_def program t).queue (slots_of words t) (words (Tail t)) (queue_of (thread_of m t))
+  pub small : (t : ℕ) → t < length program.threads → published (queue_of (thread_of m t)) < 2 ^ 20
   pub clock : words Clock ≡ m.clock
 
 -- the event is the first of the thread's queue

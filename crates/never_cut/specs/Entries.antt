@@ -1,16 +1,17 @@
 -- When an entry is legal, and what it makes of a state.
-use Rattle.std.specs.Prelude.{◌≡◌, ℕ, ◌+◌, ◌%◌, ◌^◌, ◌<◌, true, false, List, [], ◌∷◌, ◌++◌, length, drop, slice_index, slice_index_or, Some, None, IsSome}
+use Rattle.std.specs.Prelude.{◌≡◌, ℕ, ◌+◌, ◌^◌, ◌<◌, true, false, List, [], ◌∷◌, ◌++◌, length, slice_index_or, Some, None, IsSome}
 use Rattle.ink_base.specs.declared.event.Event.{Event}
-use Rattle.ink_base.specs.declared.event.Origin.TheVariants as origins
 use Rattle.ink_base.specs.declared.entry.Entry.{Entry}
 use Rattle.ink_base.specs.declared.entry.Entry.TheVariants.{Push, Refuse, Skip, Tick, Scan, Look, Commit, Release}
 use Rattle.task_isa.specs.declared.program.Program.{Program}
+use Rattle.push_core.specs.Queue as queues
+use Rattle.push_core.specs.Queue.{HasPlace, IsFull, IsRefused, IsFinished}
 use Rattle.prog_check.specs.Lookup.{thread_def, source_thread}
 use Rattle.never_cut.specs.declared.model.Model.{Model}
 use Rattle.never_cut.specs.declared.source_model.SourceModel.{SourceModel}
 use Rattle.never_cut.specs.declared.scan_model.ScanModel.{ScanModel}
 use Rattle.never_cut.specs.declared.thread_model.ThreadModel.{ThreadModel}
-use Rattle.never_cut.specs.State.{thread_of, source_of, with_thread, with_source, is_looked}
+use Rattle.never_cut.specs.State.{thread_of, source_of, queue_of, with_queue, source_in, source_model, with_thread, with_source, is_looked}
 use Rattle.never_cut.specs.Pending.{pending, later_event}
 use Rattle.never_cut.specs.Commit.{commit}
 
@@ -23,14 +24,11 @@ readings_of readings i = slice_index_or readings i []
 
 -- the event of a source's next reading
 abbrev pub next_event : Readings → Model → ℕ → Event
-next_event readings m i =
-    record {
-      origin = origins.Source (record { 0 = i }) ((source_of m i).accepted % 64);
-      value = slice_index (readings_of readings i) (source_of m i).next;
-    }
+next_event readings m i = queues.next_event i (readings_of readings i) (source_in (source_of m i))
 
+-- the source's next reading is there
 abbrev pub HasReading : Readings → Model → ℕ → Type 0
-HasReading readings m i = (source_of m i).next < length (readings_of readings i)
+HasReading readings m i = queues.HasReading (readings_of readings i) (source_in (source_of m i))
 
 -- the thread that a source feeds, and how many events its queue holds
 abbrev pub fed_by : Program → Model → ℕ → ThreadModel
@@ -65,30 +63,33 @@ abbrev pub IsCalm : Program → Model → Type 0
 IsCalm program m = (t : ℕ) → t < length program.threads → (thread_of m t).finished ≡ false
 
 abbrev pub Legal : Program → Readings → Model → Entry → Type 0
-Legal program readings m (Push i) = (i.0 < length program.sources) × HasReading readings m i.0 × (held_for program m i.0 < places_for program i.0)
-Legal program readings m (Refuse i) = (i.0 < length program.sources) × HasReading readings m i.0 × (held_for program m i.0 ≡ places_for program i.0)
-Legal program readings m (Skip i) = (i.0 < length program.sources) × ((source_of m i.0).refused ≡ true)
+Legal program readings m (Push i) = (i.0 < length program.sources) × HasReading readings m i.0 × HasPlace (places_for program i.0) (queue_of (fed_by program m i.0))
+Legal program readings m (Refuse i) = (i.0 < length program.sources) × HasReading readings m i.0 × IsFull (places_for program i.0) (queue_of (fed_by program m i.0))
+Legal program readings m (Skip i) = (i.0 < length program.sources) × IsRefused (source_in (source_of m i.0))
 Legal program readings m (Tick by) = m.clock + by < 2 ^ 47
 Legal program readings m Scan = IsCalm program m
 Legal program readings m (Look t) = (t.0 < length program.threads) × InScan m (λ scan. MayLook m scan t.0)
 Legal program readings m (Commit t) =
     (t.0 < length program.threads) × InScan m (λ scan. ArePassed program m scan t.0) × IsSome (pending program m t.0)
-Legal program readings m (Release t) = (t.0 < length program.threads) × ((thread_of m t.0).finished ≡ true)
+Legal program readings m (Release t) = (t.0 < length program.threads) × IsFinished (queue_of (thread_of m t.0))
 
+-- a thread whose queue has accepted the event
 abbrev pub pushed : Event → ThreadModel → ThreadModel
-pushed e x = record x { held = x.held ++ e ∷ [] }
+pushed e x = with_queue (queues.with_event (queue_of x) e) x
 
+-- a thread whose queue has released its first event
 abbrev pub released : ThreadModel → ThreadModel
-released x = record x { held = drop 1 x.held; released = x.released + 1; finished = false }
+released x = with_queue (queues.without_first (queue_of x)) x
 
+-- a source after a push, a refusal and a skip
 abbrev pub with_accepted : SourceModel → SourceModel
-with_accepted s = record { next = s.next + 1; accepted = s.accepted + 1; refused = false }
+with_accepted s = source_model (queues.with_accepted (source_in s))
 
 abbrev pub with_refused : SourceModel → SourceModel
-with_refused s = record s { refused = true }
+with_refused s = source_model (queues.with_refused (source_in s))
 
 abbrev pub with_skipped : SourceModel → SourceModel
-with_skipped s = record { next = s.next + 1; accepted = s.accepted; refused = false }
+with_skipped s = source_model (queues.with_skipped (source_in s))
 
 abbrev pub looked : Rattle.ink_base.specs.declared.ids.ThreadId.ThreadId → ScanModel → ScanModel
 looked t scan = record scan { looked = scan.looked ++ t ∷ [] }

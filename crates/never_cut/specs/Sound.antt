@@ -1,16 +1,17 @@
 -- What holds of every state that a legal journal reaches, from the first image or from another state of which it holds.
-use Rattle.std.specs.Prelude.{◌≡◌, ℕ, zero, suc, ◌+◌, ◌-◌, ◌%◌, ◌^◌, ◌<◌, ◌≤◌, ◌==◌, true, false, if◌then◌else◌, length, slice_index, Some, None}
+use Rattle.std.specs.Prelude.{◌≡◌, ℕ, ◌+◌, ◌%◌, ◌^◌, ◌<◌, ◌≤◌, true, false, length, slice_index, Some, None}
 use Rattle.std.specs.Option.{ForSome}
 use Rattle.ink_base.specs.declared.event.Event.{Event}
 use Rattle.ink_base.specs.declared.event.Origin.TheVariants as origins
 use Rattle.task_isa.specs.declared.program.Program.{Program}
 use Rattle.push_core.specs.Table.{greatest_tail}
+use Rattle.push_core.specs.Queue as queues
+use Rattle.push_core.specs.Queue.{Source, published, event_at}
 use Rattle.prog_check.specs.Lookup.{thread_def, pipe_def, timer_def, task_def, source_thread}
 use Rattle.never_cut.specs.declared.model.Model.{Model}
-use Rattle.never_cut.specs.State.{thread_of, pipe_of, timer_of, source_of}
+use Rattle.never_cut.specs.State.{thread_of, pipe_of, timer_of, source_of, queue_of, source_in}
 use Rattle.never_cut.specs.Commit.{outputs_of}
 use Rattle.never_cut.specs.Entries.{Readings, readings_of, IsCalm}
-use Rattle.never_cut.specs.Stands.{published, event_at}
 
 -- as many of each part as the program declares
 pub record HasShape (program : Program) (m : Model) : Type 0 where
@@ -20,19 +21,17 @@ pub record HasShape (program : Program) (m : Model) : Type 0 where
   pub sources : length m.sources ≡ length program.sources
   pub states : (t : ℕ) → t < length program.threads → length (thread_of m t).state ≡ (thread_def program t).state
 
+-- the sources of a state
+abbrev pub sources_in : Model → ℕ → Source
+sources_in m i = source_in (source_of m i)
+
 -- how many readings the first so many sources of a thread haven't settled
 abbrev pub unsettled_into : Program → Readings → Model → ℕ → ℕ → ℕ
-unsettled_into program readings m t zero = 0
-unsettled_into program readings m t (suc i) =
-    unsettled_into program readings m t i + (if source_thread program i == t then length (readings_of readings i) - (source_of m i).next else 0)
+unsettled_into program readings m t n = queues.unsettled_into (source_thread program) (readings_of readings) (sources_in m) t n
 
 -- an event of a source of this thread's queue, within its bits
 abbrev pub IsQueued : Program → ℕ → Event → Type 0
-IsQueued program t e = elim e.origin [
-  | origins.Source source count ↦ (source.0 < length program.sources) × (source_thread program source.0 ≡ t) × (count < 64) × (e.value < 2 ^ 32)
-  | origins.Pipe pipe item ↦ ⊥
-  | origins.Timer timer deadline ↦ ⊥
-]
+IsQueued program t e = queues.IsQueued (length program.sources) (source_thread program) t e
 
 -- the event of a running chain: the first held one, unfinished; the item that was taken last from a pipe that the thread reads; or of a timer of its own
 abbrev pub IsServed : Program → Model → ℕ → Event → Type 0
@@ -54,7 +53,7 @@ pub record IsChain (program : Program) (m : Model) (t task : ℕ) : Type 0 where
 -- a thread's queue has the events of its own sources, and it serves one event at a time
 pub record IsSoundThread (program : Program) (readings : Readings) (m : Model) (t : ℕ) : Type 0 where
   -- each event that its queue has had, or may yet get, has a position
-  pub positions : published (thread_of m t) + unsettled_into program readings m t (length program.sources) ≤ greatest_tail
+  pub positions : published (queue_of (thread_of m t)) + unsettled_into program readings m t (length program.sources) ≤ greatest_tail
   pub queued : (k : ℕ) → k < length (thread_of m t).held → IsQueued program t (event_at (thread_of m t).held k)
   pub finished : (thread_of m t).finished ≡ true → (0 < length (thread_of m t).held) × ((thread_of m t).running ≡ None)
   pub idle : (thread_of m t).running ≡ None → (thread_of m t).event ≡ None

@@ -1,8 +1,7 @@
 -- When the words of a board stand for a state.
-use Rattle.std.specs.Prelude.{◌≡◌, ◌⊎◌, ℕ, ◌+◌, ◌*◌, ◌/◌, ◌%◌, ◌^◌, ◌<◌, ◌≤◌, ◌==◌, ◌&&◌, nat_lt, Bool, if◌then◌else◌, List, [], ◌∷◌, ◌++◌, length, map, replicate, slice_index, slice_index_or, Option, Some, None}
+use Rattle.std.specs.Prelude.{◌≡◌, ◌⊎◌, ℕ, ◌+◌, ◌*◌, ◌%◌, ◌^◌, ◌<◌, ◌≤◌, ◌==◌, ◌&&◌, nat_lt, Bool, if◌then◌else◌, List, [], ◌∷◌, length, map, slice_index, Option, Some, None}
 use Rattle.std.specs.Option.{ForSome}
 use Rattle.ink_base.specs.declared.ids.TaskId.{TaskId}
-use Rattle.ink_base.specs.declared.event.Event.{Event}
 use Rattle.ink_base.specs.declared.event.Origin.TheVariants as origins
 use Rattle.ink_base.specs.declared.output.Output.{Output}
 use Rattle.task_isa.specs.declared.program.Program.{Program}
@@ -11,12 +10,10 @@ use Rattle.fram_words.specs.Places.{Memory, Code, Log, Ring, Tail, Slot, Ack, Cl
 use Rattle.fram_words.specs.Header as header
 pub use Rattle.fram_words.specs.Held.{next_word, origin_word, due_word, output_word}
 use Rattle.thread_state.specs.Pages.{committed}
-use Rattle.push_core.specs.Slots.{full_word, empty_word}
+use Rattle.push_core.specs.Queue.{StandsQueue, StandsSource}
 use Rattle.prog_check.specs.Lookup.{thread_def, pipe_def, timer_def, task_def, instr_at, source_thread}
 use Rattle.never_cut.specs.declared.model.Model.{Model}
-use Rattle.never_cut.specs.declared.thread_model.ThreadModel.{ThreadModel}
-use Rattle.never_cut.specs.declared.source_model.SourceModel.{SourceModel}
-use Rattle.never_cut.specs.State.{thread_of, pipe_of, timer_of, source_of}
+use Rattle.never_cut.specs.State.{thread_of, pipe_of, timer_of, source_of, queue_of, source_in}
 use Rattle.never_cut.specs.Commit.{outputs_of}
 
 abbrev pub flag : Bool → ℕ
@@ -119,56 +116,15 @@ pub record StandsPrivate (words : Memory) (program : Program) (m : Model) : Type
   pub newest : (m.commits ≡ 0) ⊎ ((t : ℕ) × (t < length program.threads) × (committed words t header.stamp ≡ m.commits))
   pub pipes : (q : ℕ) → q < length program.pipes → StandsPipe words program m q
 
--- the word of an event of a queue at a position
-abbrev pub event_word : ℕ → Event → ℕ
-event_word position e = elim e.origin [
-  | origins.Source source count ↦ full_word position source count e.value
-  | origins.Pipe pipe item ↦ 0
-  | origins.Timer timer deadline ↦ 0
-]
-
-abbrev pub no_event : Event
-no_event = record { origin = origins.Source (record { 0 = 0 }) 0; value = 0 }
-
-abbrev pub event_at : List Event → ℕ → Event
-event_at held k = slice_index_or held k no_event
-
--- the number of events that a queue has published
-abbrev pub published : ThreadModel → ℕ
-published x = x.released + length x.held
-
--- the slots of a queue hold its events and are empty otherwise; its tail is the number of published events, or one behind
-pub record StandsQueue (places : ℕ) (slot : ℕ → ℕ) (tail : ℕ) (x : ThreadModel) : Type 0 where
-  pub room : length x.held ≤ places
-  pub full : (k : ℕ) → k < length x.held → slot ((x.released + k) % places) ≡ event_word (x.released + k) (event_at x.held k)
-  pub free : (s : ℕ) → published x ≤ s → s < x.released + places → slot (s % places) ≡ empty_word s
-  pub tail_near : (tail ≡ published x) ⊎ (tail + 1 ≡ published x)
-
+-- the slots of a thread's queue
 abbrev pub slots_of : Memory → ℕ → ℕ → ℕ
 slots_of words t n = words (Slot t n)
 
--- an event of source i whose count is that of number a is held
-abbrev pub is_event_of : ℕ → ℕ → Event → Bool
-is_event_of i a e = elim e.origin [
-  | origins.Source source count ↦ (source.0 == i) && (count == a % 64)
-  | origins.Pipe pipe item ↦ Rattle.std.specs.Prelude.false
-  | origins.Timer timer deadline ↦ Rattle.std.specs.Prelude.false
-]
-
-abbrev pub Holds : ℕ → ℕ → List Event → Type 0
-Holds i a held = (k : ℕ) × (k < length held) × (is_event_of i a (event_at held k) ≡ Rattle.std.specs.Prelude.true)
-
--- what a source's words, SRC and ACK, and the events of its queue tell of it: where a held event has the count of the number in SRC, or ACK is one
--- above that count, one reading more is accepted and settled than SRC says; else as many as it says
-pub record StandsSource (i src ack : ℕ) (held : List Event) (s : SourceModel) : Type 0 where
-  pub one_more : Holds i (src % 2 ^ 32) held ⊎ (ack ≡ (src % 2 ^ 32 + 1) % 64) → (s.accepted ≡ src % 2 ^ 32 + 1) × (s.next ≡ src / 2 ^ 32 + 1)
-  pub as_many : (Holds i (src % 2 ^ 32) held ⊎ (ack ≡ (src % 2 ^ 32 + 1) % 64) → ⊥) → (s.accepted ≡ src % 2 ^ 32) × (s.next ≡ src / 2 ^ 32)
-
 -- the shared words: queues, clock and sources
 pub record StandsShared (words : Memory) (program : Program) (m : Model) : Type 0 where
-  pub queues : (t : ℕ) → t < length program.threads → StandsQueue (thread_def program t).queue (slots_of words t) (words (Tail t)) (thread_of m t)
+  pub queues : (t : ℕ) → t < length program.threads → StandsQueue (thread_def program t).queue (slots_of words t) (words (Tail t)) (queue_of (thread_of m t))
   pub clock : words Clock ≡ m.clock
-  pub sources : (i : ℕ) → i < length program.sources → StandsSource i (words (Src i)) (words (Ack i)) (thread_of m (source_thread program i)).held (source_of m i)
+  pub sources : (i : ℕ) → i < length program.sources → StandsSource i (words (Src i)) (words (Ack i)) (thread_of m (source_thread program i)).held (source_in (source_of m i))
 
 -- the words of a board stand for a state
 pub record Stands (words : Memory) (program : Program) (m : Model) : Type 0 where

@@ -7,6 +7,7 @@ use Rattle.task_isa.specs.declared.program.Program.{Program}
 use Rattle.task_isa.specs.declared.program.ThreadDef.{ThreadDef}
 use Rattle.task_isa.specs.declared.program.PipeDef.{PipeDef}
 use Rattle.task_isa.specs.declared.program.TimerDef.{TimerDef}
+use Rattle.push_core.specs.Queue.{Queue, Source}
 use Rattle.never_cut.specs.declared.model.Model.{Model}
 use Rattle.never_cut.specs.declared.thread_model.ThreadModel.{ThreadModel}
 use Rattle.never_cut.specs.declared.pipe_model.PipeModel.{PipeModel}
@@ -49,6 +50,22 @@ timer_of m j = slice_index_or m.timers j no_timer
 
 abbrev pub source_of : Model → ℕ → SourceModel
 source_of m i = slice_index_or m.sources i no_source
+
+-- the queue of a thread
+abbrev pub queue_of : ThreadModel → Queue
+queue_of x = record { held = x.held; finished = x.finished; released = x.released }
+
+-- a thread with this queue
+abbrev pub with_queue : Queue → ThreadModel → ThreadModel
+with_queue q x = record x { held = q.held; finished = q.finished; released = q.released }
+
+-- what a source has accepted and settled
+abbrev pub source_in : SourceModel → Source
+source_in s = record { next = s.next; accepted = s.accepted; refused = s.refused }
+
+-- a source that has accepted and settled this
+abbrev pub source_model : Source → SourceModel
+source_model s = record { next = s.next; accepted = s.accepted; refused = s.refused }
 
 -- the state with one thread or source in another's place
 abbrev pub with_thread : Model → ℕ → ThreadModel → Model

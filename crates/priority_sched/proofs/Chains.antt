@@ -19,7 +19,7 @@ use Rattle.never_cut.specs.Commit.{is_of_queue}
 use Rattle.never_cut.specs.Entries.{Readings, IsCalm}
 use Rattle.never_cut.specs.Sound.{IsSound, IsChain, IsServed, IsQueued}
 use Rattle.never_cut.specs.Within.{Lasts}
-use Rattle.never_cut.specs.Stands.{event_at}
+use Rattle.push_core.specs.Queue.{event_at}
 use Rattle.never_cut.specs.Actors.{IsFirstHeld}
 use Rattle.never_cut.specs.Steps.{Background}
 use Rattle.never_cut.proofs.Picks.{pending-running}

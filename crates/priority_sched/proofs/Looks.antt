@@ -9,6 +9,7 @@ use Rattle.task_isa.specs.declared.program.Program.{Program}
 use Rattle.fram_words.specs.Places.{Memory, Load}
 use Rattle.fram_words.specs.Places as places
 use Rattle.push_core.specs.Slots.{slot_in}
+use Rattle.push_core.specs.Queue.{event_slot}
 use Rattle.prog_check.specs.Lookup.{thread_def}
 use Rattle.ink_layout.specs.Points.{entry_of_point}
 use Rattle.ink_layout.specs.declared.pick.Pick.{Pick}
@@ -22,7 +23,7 @@ use Rattle.never_cut.specs.Actors.{IsFirstHeld}
 use Rattle.never_cut.specs.Picked.{IsLoaded}
 use Rattle.never_cut.specs.Steps.{Background, IsKept}
 use Rattle.never_cut.proofs.Scans.{with_scan, scan_private, scan_queues}
-use Rattle.never_cut.proofs.Slots.{readable, slot_of, first_slot, empty_slot}
+use Rattle.never_cut.proofs.Slots.{readable, first_slot, empty_slot}
 use Rattle.never_cut.proofs.Picks.{pending-first}
 use Rattle.priority_sched.specs.declared.idle.Idle.{Idle}
 use Rattle.priority_sched.specs.declared.scan_at.ScanAt.TheVariants.{Slot}
@@ -138,11 +139,11 @@ look_some program readings words m thread time c p e b h first =
     }
 
 -- what a slot shows at the position of its event is the event
-event_at-slot_of : (program : Program) (t p q : ℕ) (o : origin.Origin) (value : ℕ) → IsQueued program t (record { origin = o; value = value }) → q ≡ p →
-    event_at p (slot_of q (record { origin = o; value = value })) ≡ Some (record { origin = o; value = value })
-event_at-slot_of program t p q (origins.Source source count) value h e = rw (eq-eqb q p e) refl
-event_at-slot_of program t p q (origins.Pipe pipe item) value h e = absurd h
-event_at-slot_of program t p q (origins.Timer timer deadline) value h e = absurd h
+event_at-event_slot : (program : Program) (t p q : ℕ) (o : origin.Origin) (value : ℕ) → IsQueued program t (record { origin = o; value = value }) → q ≡ p →
+    event_at p (Some (event_slot q (record { origin = o; value = value }))) ≡ Some (record { origin = o; value = value })
+event_at-event_slot program t p q (origins.Source source count) value h e = rw (eq-eqb q p e) refl
+event_at-event_slot program t p q (origins.Pipe pipe item) value h e = absurd h
+event_at-event_slot program t p q (origins.Timer timer deadline) value h e = absurd h
 
 -- what the slot of the next event shows
 look_found : (program : Program) (readings : Readings) (words : Memory) (m : Model) (thread : ThreadId) (time c p : ℕ) (held : List Event) → Background program readings words m →
@@ -161,7 +162,7 @@ look_found program readings words m thread time c p (e ∷ rest) b h is =
     let queued : IsQueued program thread.0 e = queued_first program readings words m thread.0 e b h.known (rest, is) in
     subst (LookStep program readings words m thread time c p)
     (sym (ap (λ k. event_at p (slot_in (words (places.Slot thread.0 (k % size))))) h.knows.2
-    ∙ (ap (event_at p) shows ∙ event_at-slot_of program thread.0 p (thread_of m thread.0).released e.origin e.value queued (sym h.knows.2))))
+    ∙ (ap (event_at p) shows ∙ event_at-event_slot program thread.0 p (thread_of m thread.0).released e.origin e.value queued (sym h.knows.2))))
     (look_some program readings words m thread time c p e b h (rest, is))
 
 pub slot_step : (program : Program) (readings : Readings) (words : Memory) (m : Model) (thread : ThreadId) (time c p : ℕ) → Background program readings words m →

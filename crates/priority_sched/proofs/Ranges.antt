@@ -12,9 +12,9 @@ use Rattle.event_pipe.specs.Ring.{ring_index}
 use Rattle.thread_state.specs.Pages.{place_in}
 use Rattle.prog_check.specs.Lookup.{pipe_def}
 use Rattle.never_cut.specs.declared.model.Model.{Model}
-use Rattle.never_cut.specs.State.{thread_of, pipe_of, timer_of}
+use Rattle.never_cut.specs.State.{thread_of, queue_of, pipe_of, timer_of}
 use Rattle.never_cut.specs.Entries.{Readings, IsCalm}
-use Rattle.never_cut.specs.Stands.{published}
+use Rattle.push_core.specs.Queue.{published}
 use Rattle.never_cut.specs.Sound.{IsSound, IsSoundPipe}
 use Rattle.never_cut.specs.Within.{Lasts}
 use Rattle.never_cut.specs.Steps.{Background}
@@ -68,7 +68,7 @@ word_in_range program readings words m t time (Running c) b few known calm h =
     let low : next_word (thread_of m t).running ≤ length program.tasks = next_in_range program readings m t (thread_of m t).running b.sound known refl in
     omega arith
 word_in_range program readings words m t time (Finished c running) b few known calm h =
-    let small : published (thread_of m t) < 2 ^ 20 = b.shared.small t known in
+    let small : published (queue_of (thread_of m t)) < 2 ^ 20 = b.shared.small t known in
     let at : words (place_in t c header.finished) ≡ (thread_of m t).released = calm_word program readings words m t c b known calm h.1 in omega arith
 word_in_range program readings words m t time (Value chain o) b few known calm h =
     let at : HasOrigin m t o = h.1 in value_in_range program readings words m t time chain at.0 b few known h.0 at.1

@@ -17,12 +17,14 @@ pub record HasNumbers (sources : ℕ) (queue_of : ℕ → ℕ) (t : ℕ) (e : Ev
 pub queued_numbers : (sources : ℕ) (queue_of : ℕ → ℕ) (t : ℕ) (e : Event) → IsQueued sources queue_of t e → HasNumbers sources queue_of t e
 queued_numbers sources queue_of t e h = by_origin e.origin e.value h
   where
-    by_origin : (o : Origin) (value : ℕ) → IsQueued sources queue_of t (record { origin = o; value = value }) → HasNumbers sources queue_of t (record { origin = o; value = value })
+    by_origin : (o : Origin) (value : ℕ) → IsQueued sources queue_of t (record { origin = o; value = value }) →
+        HasNumbers sources queue_of t (record { origin = o; value = value })
     by_origin (origins.Source source count) value h = record { source = h.0; queue = h.1; count = h.2; value = h.3 }
     by_origin (origins.Pipe pipe item) value h = absurd h
     by_origin (origins.Timer timer deadline) value h = absurd h
 
-pub queued_fits : (sources : ℕ) (queue_of : ℕ → ℕ) (t position : ℕ) (e : Event) → sources ≤ 16 → position < 2 ^ 21 → IsQueued sources queue_of t e → FitsEvent position e
+pub queued_fits : (sources : ℕ) (queue_of : ℕ → ℕ) (t position : ℕ) (e : Event) → sources ≤ 16 → position < 2 ^ 21 →
+    IsQueued sources queue_of t e → FitsEvent position e
 queued_fits sources queue_of t position e few lt h =
     let n = queued_numbers sources queue_of t e h in
     record { position_fits = lt; source_fits = omega (arith, n.source); count_fits = n.count; value_fits = n.value }
@@ -38,8 +40,8 @@ number_count i number e is = ap (λ (o : Origin). event_count (record { origin =
 pub is_number : (i number : ℕ) (e : Event) → i < 256 → event_source e ≡ i → event_count e ≡ number % 64 → IsNumber i number e
 is_number i number e few own count = by_origin e.origin e.value own count
   where
-    by_origin : (o : Origin) (value : ℕ) → event_source (record { origin = o; value = value }) ≡ i → event_count (record { origin = o; value = value }) ≡ number % 64 →
-        o ≡ origins.Source (record { 0 = i }) (number % 64)
+    by_origin : (o : Origin) (value : ℕ) → event_source (record { origin = o; value = value }) ≡ i →
+        event_count (record { origin = o; value = value }) ≡ number % 64 → o ≡ origins.Source (record { 0 = i }) (number % 64)
     by_origin (origins.Source source count) value own same = λ k. origins.Source (record { 0 = own k }) (same k)
     by_origin (origins.Pipe pipe item) value own same = absurd (omega arith)
     by_origin (origins.Timer timer deadline) value own same = absurd (omega arith)

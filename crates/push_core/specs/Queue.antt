@@ -161,7 +161,8 @@ pub record StandsSource (i src ack : ℕ) (held : List Event) (s : Source) : Typ
 -- the events of source i among these have in order the counts from first to last, last left out, modulo 64
 abbrev pub Numbered : (i : ℕ) → List Event → (first last : ℕ) → Type 0
 Numbered i [] first last = first ≡ last
-Numbered i (e ∷ held) first last = MatchBool (event_source e == i) ((event_count e ≡ first % 64) × Numbered i held (first + 1) last) (Numbered i held first last)
+Numbered i (e ∷ held) first last =
+    MatchBool (event_source e == i) ((event_count e ≡ first % 64) × Numbered i held (first + 1) last) (Numbered i held first last)
 
 -- the queue's first event is one of source i, and is finished
 pub record IsFinishing (i : ℕ) (q : Queue) : Type 0 where

@@ -21,12 +21,13 @@ use Rattle.never_cut.specs.declared.model.Model.{Model}
 use Rattle.never_cut.specs.declared.thread_model.ThreadModel.{ThreadModel}
 use Rattle.never_cut.specs.State.{thread_of}
 use Rattle.never_cut.specs.Entries.{Readings}
-use Rattle.never_cut.specs.Stands.{flag, StandsPrivate, event_at}
+use Rattle.never_cut.specs.Stands.{flag, StandsPrivate}
+use Rattle.push_core.specs.Queue.{event_at, event_slot}
 use Rattle.never_cut.specs.Sound.{IsQueued}
 use Rattle.never_cut.specs.Actors.{IsFirstHeld, StandsForKernel}
 use Rattle.never_cut.specs.Steps.{Background, IsKept}
 use Rattle.never_cut.proofs.Privates.{private_stays, ack_blocks}
-use Rattle.never_cut.proofs.Slots.{readable, slot_of, first_slot, old_slot, ShowsOther}
+use Rattle.never_cut.proofs.Slots.{readable, first_slot, old_slot, ShowsOther}
 use Rattle.never_cut.proofs.Releases.{after_release, release_other, release_calm, release_private, release_queues}
 use Rattle.never_cut.proofs.Blocks.{finished_word}
 use Rattle.reboot.specs.declared.boot_at.BootAt.{BootAt}
@@ -136,7 +137,7 @@ other_shown program words m thread stamp p None other h = h
 event_shown : (program : Program) (words : Memory) (m : Model) (thread : ThreadId) (stamp p : ℕ) (origin : Origin) (value : ℕ) →
     BootHolds program words m (boot_at thread stamp (Slot p)) → IsQueued program thread.0 (record { origin = origin; value = value }) →
     IsFirstHeld m thread.0 (record { origin = origin; value = value }) → (thread_of m thread.0).finished ≡ true → (thread_of m thread.0).released ≡ p →
-    BootHolds program words m (after_slot program thread stamp p (slot_of (thread_of m thread.0).released (record { origin = origin; value = value })))
+    BootHolds program words m (after_slot program thread stamp p (Some (event_slot (thread_of m thread.0).released (record { origin = origin; value = value }))))
 event_shown program words m thread stamp p (origins.Source source count) value h queued first is at =
     rw (eq-eqb (thread_of m thread.0).released p at) (record {
       known = h.known;

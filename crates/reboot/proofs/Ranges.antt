@@ -3,23 +3,23 @@ use Rattle.std.proofs.Common.{◌≡◌, ℕ, ◌+◌, ◌-◌, ◌%◌, ◌^◌
 use Rattle.std.proofs.lemmas.Bool.{cases_Bool, cases_lt}
 use Rattle.std.proofs.Math.Nat.{add-mod_right}
 use Rattle.ink_base.specs.declared.event.Event.{Event}
-use Rattle.ink_base.specs.declared.event.Origin.{Origin}
-use Rattle.ink_base.specs.declared.event.Origin.TheVariants as origins
 use Rattle.task_isa.specs.declared.program.Program.{Program}
 use Rattle.fram_words.specs.Places.{Memory, answer}
 use Rattle.fram_words.specs.Header as header
 use Rattle.thread_state.specs.Pages.{place_in}
 use Rattle.push_core.specs.Slots.{slot_in}
-use Rattle.prog_check.specs.Lookup.{thread_def}
+use Rattle.prog_check.specs.Lookup.{thread_def, source_thread}
 use Rattle.never_cut.specs.declared.model.Model.{Model}
 use Rattle.never_cut.specs.declared.thread_model.ThreadModel.{ThreadModel}
-use Rattle.never_cut.specs.State.{thread_of}
+use Rattle.never_cut.specs.State.{thread_of, queue_of}
 use Rattle.never_cut.specs.Entries.{Readings}
-use Rattle.never_cut.specs.Stands.{flag, published, event_at}
+use Rattle.never_cut.specs.Stands.{flag}
+use Rattle.push_core.specs.Queue.{published, event_at}
+use Rattle.push_core.proofs.Events.{queued_numbers}
 use Rattle.never_cut.specs.Sound.{IsQueued}
 use Rattle.never_cut.specs.Actors.{IsFinishing}
 use Rattle.never_cut.specs.Steps.{Background}
-use Rattle.never_cut.proofs.Slots.{IsReadable, readable, slot_of, held_slot, free_slot}
+use Rattle.never_cut.proofs.Slots.{IsReadable, readable, held_slot, free_slot}
 use Rattle.never_cut.proofs.Blocks.{finished_word}
 use Rattle.reboot.specs.declared.boot_at.BootAt.{BootAt}
 use Rattle.reboot.specs.declared.boot_at.BootAt.TheVariants.{Commit, Stamp, Finished, Slot, Ack, Empty, Over}
@@ -28,24 +28,18 @@ use Rattle.reboot.specs.Boot.{boot_wants, IsBootRow, IsBootWord, IsOfSource}
 use Rattle.reboot.specs.Knows.{finished_events, BootKnows, BootHolds}
 use Rattle.reboot.specs.Laws.{IsInRange}
 
-of_source : (program : Program) (t p : ℕ) (origin : Origin) (value : ℕ) → IsQueued program t (record { origin = origin; value = value }) →
-    IsOfSource program (slot_of p (record { origin = origin; value = value }))
-of_source program t p (origins.Source source count) value h = h.0
-of_source program t p (origins.Pipe pipe item) value h = absurd h
-of_source program t p (origins.Timer timer deadline) value h = absurd h
-
 -- the slot of a position of this turn shows an event of one of the sources, or none
 pub slot_source : (program : Program) (t size : ℕ) (slot : ℕ → ℕ) (tail s : ℕ) (x : ThreadModel) → IsReadable program t size slot tail x →
     x.released ≤ s → s < x.released + size → IsOfSource program (slot_in (slot (s % size)))
 slot_source program t size slot tail s x h above below =
-    elim (cases_lt s (published x)) [
+    elim (cases_lt s (published (queue_of x))) [
       | inl held ↦
           let at : x.released + (s - x.released) ≡ s = omega arith in
           let k : s - x.released < length x.held = omega arith in
           let e : Event = event_at x.held (s - x.released) in
           subst (λ n. IsOfSource program (slot_in (slot (n % size)))) at
           (subst (IsOfSource program) (sym (held_slot program t size slot tail (s - x.released) x h k))
-          (of_source program t (x.released + (s - x.released)) e.origin e.value (h.queued (s - x.released) k)))
+          (queued_numbers (length program.sources) (source_thread program) t e (h.queued (s - x.released) k)).source)
       | inr free ↦ subst (IsOfSource program) (sym (free_slot program t size slot tail s x h free below)) tt
     ]
 
@@ -67,7 +61,7 @@ flag_small false = omega arith
 events_small : (program : Program) (readings : Readings) (words : Memory) (m : Model) (t : ℕ) → Background program readings words m → t < length program.threads →
     finished_events m t < 2 ^ 20
 events_small program readings words m t b known =
-    let small : published (thread_of m t) < 2 ^ 20 = b.shared.small t known in
+    let small : published (queue_of (thread_of m t)) < 2 ^ 20 = b.shared.small t known in
     let sound = b.sound.threads t known in
     elim (cases_Bool (thread_of m t).finished) [
       | inl is ↦ let some = sound.finished is in let held : 0 < length (thread_of m t).held = some.0 in rw is (omega arith)
@@ -91,11 +85,11 @@ row_in_range program readings words m t stamp (Slot p) b known h =
     let small : finished_events m t < 2 ^ 20 = events_small program readings words m t b known in
     let at : p + 1 ≡ finished_events m t = h.0 in omega arith
 row_in_range program readings words m t stamp (Ack p source count) b known h =
-    let small : published (thread_of m t) < 2 ^ 20 = b.shared.small t known in
+    let small : published (queue_of (thread_of m t)) < 2 ^ 20 = b.shared.small t known in
     let at : p ≡ (thread_of m t).released = h.0.position in
     (omega arith, finishing_source program readings words m t source.0 count b known h.0.finishing)
 row_in_range program readings words m t stamp (Empty p) b known h =
-    let small : published (thread_of m t) < 2 ^ 20 = b.shared.small t known in
+    let small : published (queue_of (thread_of m t)) < 2 ^ 20 = b.shared.small t known in
     let at : p ≡ (thread_of m t).released = h.0.event.position in omega arith
 row_in_range program readings words m t stamp Over b known h = tt
 

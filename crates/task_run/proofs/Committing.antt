@@ -19,10 +19,11 @@ use Rattle.ink_layout.specs.declared.pick.Pick.{Pick}
 use Rattle.never_cut.specs.declared.model.Model.{Model}
 use Rattle.never_cut.specs.declared.scan_model.ScanModel.{ScanModel}
 use Rattle.never_cut.specs.declared.thread_model.ThreadModel.{ThreadModel}
-use Rattle.never_cut.specs.State.{thread_of, is_running}
+use Rattle.never_cut.specs.State.{thread_of, queue_of, is_running}
 use Rattle.never_cut.specs.Entries.{Readings, Legal, ArePassed, IsCalm}
 use Rattle.never_cut.specs.Commit.{is_of_queue}
-use Rattle.never_cut.specs.Stands.{Saved, saved, thread_words, log_of, AreLogged, StandsThread, StandsPrivate, StandsQueue, slots_of, published}
+use Rattle.never_cut.specs.Stands.{Saved, saved, thread_words, log_of, AreLogged, StandsThread, StandsPrivate, slots_of}
+use Rattle.push_core.specs.Queue.{StandsQueue, published}
 use Rattle.never_cut.specs.Sound.{IsSound}
 use Rattle.never_cut.specs.Actors.{StandsForKernel}
 use Rattle.never_cut.proofs.Beginnings.{Begins}
@@ -44,14 +45,14 @@ use Rattle.task_run.proofs.NextThreads.{IsServed, finishes, serves}
 use Rattle.task_run.proofs.PipeRings.{begun_stands}
 
 -- a queue stands by its events and its released count alone
-queue_of : (places : ℕ) (slot : ℕ → ℕ) (tail : ℕ) (x y : ThreadModel) → y.held ≡ x.held → y.released ≡ x.released → StandsQueue places slot tail x → StandsQueue places slot tail y
-queue_of places slot tail x y held released q =
+queue_as : (places : ℕ) (slot : ℕ → ℕ) (tail : ℕ) (x y : ThreadModel) → y.held ≡ x.held → y.released ≡ x.released → StandsQueue places slot tail (queue_of x) → StandsQueue places slot tail (queue_of y)
+queue_as places slot tail x y held released q =
     let mid : ThreadModel = record x { held = y.held; released = y.released } in
     let same : mid ≡ x = ap (λ h. record x { held = h; released = y.released }) held ∙ ap (λ n. record x { released = n }) released in
-    let k : StandsQueue places slot tail mid = subst (λ z. StandsQueue places slot tail z) (sym same) q in
-    record { room = k.room; full = k.full; free = k.free; tail_near = k.tail_near }
+    let k : StandsQueue places slot tail (queue_of mid) = subst (λ z. StandsQueue places slot tail (queue_of z)) (sym same) q in
+    record { room = k.room; full_slots = k.full_slots; empty_slots = k.empty_slots; tail_near = k.tail_near }
 
-published_of : (x y : ThreadModel) → y.held ≡ x.held → y.released ≡ x.released → published y ≡ published x
+published_of : (x y : ThreadModel) → y.held ≡ x.held → y.released ≡ x.released → published (queue_of y) ≡ published (queue_of x)
 published_of x y held released = ap (λ h. y.released + length h) held ∙ ap (λ n. n + length x.held) released
 
 -- an event whose service begins is consumed from what is there
@@ -160,19 +161,19 @@ module _ (program : Program) (readings : Readings) (m : Model) (words : Memory) 
   commit_kernel k = record {
     queues = λ u known.
         elim (cases_eq u t) [
-          | inl same ↦ subst (λ z. StandsQueue (thread_def program z).queue (slots_of words z) (words (Tail z)) (thread_of next z)) (sym same)
-              (subst (λ z. StandsQueue (thread_def program t).queue (slots_of words t) (words (Tail t)) z) (sym own_is)
-              (queue_of (thread_def program t).queue (slots_of words t) (words (Tail t)) (thread_of m t) (own_thread program m pick) is_served.held is_served.released
+          | inl same ↦ subst (λ z. StandsQueue (thread_def program z).queue (slots_of words z) (words (Tail z)) (queue_of (thread_of next z))) (sym same)
+              (subst (λ z. StandsQueue (thread_def program t).queue (slots_of words t) (words (Tail t)) (queue_of z)) (sym own_is)
+              (queue_as (thread_def program t).queue (slots_of words t) (words (Tail t)) (thread_of m t) (own_thread program m pick) is_served.held is_served.released
               (k.queues t h.picked.known)))
-          | inr ne ↦ subst (λ z. StandsQueue (thread_def program u).queue (slots_of words u) (words (Tail u)) z) (sym (other_is u ne)) (k.queues u known)
+          | inr ne ↦ subst (λ z. StandsQueue (thread_def program u).queue (slots_of words u) (words (Tail u)) (queue_of z)) (sym (other_is u ne)) (k.queues u known)
         ];
     small = λ u known.
         elim (cases_eq u t) [
           | inl same ↦
-              let is : published (thread_of next t) ≡ published (thread_of m t) =
-              ap published own_is ∙ published_of (thread_of m t) (own_thread program m pick) is_served.held is_served.released
-              in subst (λ z. published (thread_of next z) < 2 ^ 20) (sym same) (rw is (k.small t h.picked.known))
-          | inr ne ↦ subst (λ z. published z < 2 ^ 20) (sym (other_is u ne)) (k.small u known)
+              let is : published (queue_of (thread_of next t)) ≡ published (queue_of (thread_of m t)) =
+              ap (λ x. published (queue_of x)) own_is ∙ published_of (thread_of m t) (own_thread program m pick) is_served.held is_served.released
+              in subst (λ z. published (queue_of (thread_of next z)) < 2 ^ 20) (sym same) (rw is (k.small t h.picked.known))
+          | inr ne ↦ subst (λ z. published (queue_of z) < 2 ^ 20) (sym (other_is u ne)) (k.small u known)
         ];
     clock = k.clock;
   }

@@ -5,11 +5,12 @@ use Rattle.std.specs.Int.{bit_at}
 use Rattle.fram_words.specs.Places.{Place, Code, Commit, Page, Log, Ring, Tail, Slot, Clock, Memory, store, perform}
 use Rattle.fram_words.proofs.Frames.{store-other}
 use Rattle.thread_state.specs.Pages.{committed, working_mask, Buffer, IsUnderWay, IsOutside, is_dirty, put_access}
+use Rattle.push_core.proofs.Queues.{queue_same}
 use Rattle.thread_state.proofs.Pages.{copy_only, dirty_put_only, copy_committed, put_committed}
 use Rattle.task_isa.specs.declared.program.Program.{Program}
-use Rattle.prog_check.specs.Lookup.{thread_def, pipe_def}
+use Rattle.prog_check.specs.Lookup.{pipe_def}
 use Rattle.never_cut.specs.declared.model.Model.{Model}
-use Rattle.never_cut.specs.State.{thread_of, pipe_of}
+use Rattle.never_cut.specs.State.{pipe_of}
 use Rattle.never_cut.specs.Commit.{outputs_of}
 use Rattle.never_cut.specs.Stands.{StandsThread, StandsPrivate}
 use Rattle.never_cut.specs.Actors.{StandsForKernel}
@@ -47,12 +48,7 @@ pub kernel_frame : (program : Program) (words new : Memory) (m : Model) →
     ((t : ℕ) → new (Tail t) ≡ words (Tail t)) → ((t n : ℕ) → new (Slot t n) ≡ words (Slot t n)) → new Clock ≡ words Clock →
     StandsForKernel words program m → StandsForKernel new program m
 kernel_frame program words new m tail slot clock h = record {
-  queues = λ t lt. let q = h.queues t lt in record {
-    room = q.room;
-    full = λ k within. slot t (((thread_of m t).released + k) % (thread_def program t).queue) ∙ q.full k within;
-    free = λ s above below. slot t (s % (thread_def program t).queue) ∙ q.free s above below;
-    tail_near = rw (tail t) (q.tail_near);
-  };
+  queues = λ t lt. queue_same (h.queues t lt) (slot t) (tail t) refl;
   small = h.small;
   clock = clock ∙ h.clock;
 }

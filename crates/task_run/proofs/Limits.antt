@@ -8,7 +8,7 @@ use Rattle.task_isa.specs.declared.program.Task.{Task}
 use Rattle.prog_check.specs.Lookup.{thread_def, task_def, no_task_def, code_len}
 use Rattle.prog_check.specs.Accepted.{IsAccepted}
 use Rattle.never_cut.specs.Sound.{IsQueued}
-use Rattle.never_cut.specs.Stands.{published, event_at}
+use Rattle.push_core.specs.Queue.{published, event_at}
 use Rattle.never_cut.specs.Actors.{IsFinishing}
 use Rattle.never_cut.specs.Steps.{Background}
 use Rattle.task_run.specs.declared.execution.Execution.{Execution}
@@ -21,7 +21,7 @@ use Rattle.task_isa.specs.declared.program.Program.{Program}
 use Rattle.task_isa.specs.Acts.{number_of}
 use Rattle.ink_layout.specs.declared.pick.Pick.{Pick}
 use Rattle.never_cut.specs.declared.model.Model.{Model}
-use Rattle.never_cut.specs.State.{thread_of}
+use Rattle.never_cut.specs.State.{thread_of, queue_of}
 use Rattle.never_cut.specs.Entries.{Readings}
 use Rattle.never_cut.specs.Sound.{IsSound}
 use Rattle.never_cut.specs.Picked.{IsLoaded}
@@ -59,7 +59,7 @@ execution_fits program x e accepted known task inside left =
 pub position_fits : (program : Program) (readings : Readings) (words : Memory) (m : Model) (t p : ℕ) → Background program readings words m → t < length program.threads →
     p ≡ (thread_of m t).released → p + (thread_def program t).queue < 2 ^ 21
 position_fits program readings words m t p g known is =
-    let small : published (thread_of m t) < 2 ^ 20 = g.shared.small t known in
+    let small : published (queue_of (thread_of m t)) < 2 ^ 20 = g.shared.small t known in
     let queue : (thread_def program t).queue ≤ 32 = (g.accepted.threads t known).queue in
     omega arith
 

@@ -15,7 +15,7 @@ use Rattle.never_cut.specs.State.{pipe_of}
 use Rattle.never_cut.specs.Commit.{rooms, with_sends}
 use Rattle.never_cut.specs.Sound.{HasShape}
 use Rattle.never_cut.specs.Stands.{Saved, saved, written_word, taken_word}
-use Rattle.never_cut.proofs.Queues.{apart}
+use Rattle.push_core.proofs.Rings.{apart}
 use Rattle.task_run.specs.declared.machine.TaskMachine.{TaskMachine}
 use Rattle.task_run.specs.Serving.{begun, told, RunningIn}
 use Rattle.task_run.proofs.Traps.{begun-keeps}
