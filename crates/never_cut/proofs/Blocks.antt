@@ -1,7 +1,8 @@
 -- What the words of a committed copy say.
-use Rattle.std.proofs.Common.{◌≡◌, ℕ, zero, suc, ◌+◌, ◌*◌, ◌<◌, ◌≤◌, length, Some, arith, refl, ◌∙◌}
+use Rattle.std.proofs.Common.{◌≡◌, ℕ, zero, suc, ◌+◌, ◌-◌, ◌*◌, ◌<◌, ◌≤◌, List, [], ◌∷◌, length, take, replicate, Some, arith, refl, ◌∙◌}
 use Rattle.std.specs.Prelude.{◌==◌, ◌&&◌, if◌then◌else◌, nat_lt, slice_index}
 use Rattle.std.proofs.lemmas.Bool.{lt-ltb, eq-eqb}
+use Rattle.std.proofs.lemmas.List.{get_or_append_left, get_or-append_right, get_or-replicate}
 use Rattle.ink_base.specs.declared.event.Event.{Event}
 use Rattle.task_isa.specs.declared.program.Program.{Program}
 use Rattle.fram_words.specs.Places.{Memory}
@@ -46,6 +47,29 @@ period_at : (y : Saved) (stamp origin value j : ℕ) → j < 8 → slice_index (
 unfolding thread_words
 period_at y stamp origin value j lt =
     below_eight (λ k. slice_index (thread_words y stamp origin value) (header.period k) ≡ y.period k) refl refl refl refl refl refl refl refl j lt
+
+-- the words before the state
+abbrev pub header_list : Saved → (stamp origin value : ℕ) → List ℕ
+header_list y s o v =
+    s ∷ next_word y.running ∷ y.first ∷ o ∷ v ∷ y.ended ∷ y.served ∷ y.trapped ∷ y.expired ∷ length y.outputs
+    ∷ y.written 0 ∷ y.written 1 ∷ y.written 2 ∷ y.written 3 ∷ y.written 4 ∷ y.written 5 ∷ y.written 6 ∷ y.written 7
+    ∷ y.taken 0 ∷ y.taken 1 ∷ y.taken 2 ∷ y.taken 3 ∷ y.taken 4 ∷ y.taken 5 ∷ y.taken 6 ∷ y.taken 7
+    ∷ y.due 0 ∷ y.period 0 ∷ y.due 1 ∷ y.period 1 ∷ y.due 2 ∷ y.period 2 ∷ y.due 3 ∷ y.period 3
+    ∷ y.due 4 ∷ y.period 4 ∷ y.due 5 ∷ y.period 5 ∷ y.due 6 ∷ y.period 6 ∷ y.due 7 ∷ y.period 7
+    ∷ 0 ∷ 0 ∷ 0 ∷ 0 ∷ 0 ∷ 0 ∷ []
+
+-- behind the header stands the state
+pub state_at : (y : Saved) (stamp origin value w : ℕ) → header.words ≤ w → slice_index (thread_words y stamp origin value) w ≡ slice_index y.state (w - header.words)
+unfolding thread_words
+state_at y stamp origin value w le = get_or-append_right (header_list y stamp origin value) y.state 48 w 0 refl le
+
+-- the last words of the header are 0
+pub unused_at : (y : Saved) (stamp origin value w : ℕ) → header.due 8 ≤ w → w < header.words → slice_index (thread_words y stamp origin value) w ≡ 0
+unfolding thread_words
+unused_at y stamp origin value w le lt =
+    let zero_word : w - 42 < 6 = omega arith in
+    get_or_append_left (header_list y stamp origin value) y.state 0 w lt
+    ∙ (get_or-append_right (take 42 (header_list y stamp origin value)) (replicate 6 0) 42 w 0 refl le ∙ get_or-replicate 6 (w - 42) 0 0 zero_word)
 
 -- the time of a chain's first commit
 pub first_word : (program : Program) (words : Memory) (m : Model) (t : ℕ) → t < length program.threads → StandsPrivate words program m →

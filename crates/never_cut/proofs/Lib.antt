@@ -47,3 +47,5 @@ pub mod ReadSources
 pub mod ReadStates
 pub mod ReadCounts
 pub mod ImagesStand
+pub mod ToldQueues
+pub mod StatesImage

@@ -11,17 +11,18 @@ use Rattle.fram_words.specs.Header as header
 use Rattle.fram_words.specs.Held.{output_word}
 use Rattle.thread_state.specs.Pages.{committed}
 use Rattle.push_core.specs.Table.{greatest_tail}
+use Rattle.push_core.specs.Queue.{published}
 use Rattle.prog_check.specs.Accepted.{IsAccepted}
 use Rattle.prog_check.specs.Lookup.{thread_def, pipe_def}
 use Rattle.never_cut.specs.declared.model.Model.{Model}
 use Rattle.never_cut.specs.declared.thread_model.ThreadModel.{ThreadModel}
 use Rattle.never_cut.specs.declared.pipe_model.PipeModel.{PipeModel}
 use Rattle.never_cut.specs.declared.scan_model.ScanModel.{ScanModel}
-use Rattle.never_cut.specs.State.{thread_of, pipe_of, no_thread, no_pipe}
+use Rattle.never_cut.specs.State.{thread_of, queue_of, pipe_of, no_thread, no_pipe}
 use Rattle.never_cut.specs.Outputs.{outputs_in}
 use Rattle.never_cut.specs.Commit.{outputs_of}
 use Rattle.never_cut.specs.Laws.{HasStamps}
-use Rattle.never_cut.specs.Stands.{flag, published}
+use Rattle.never_cut.specs.Stands.{flag}
 use Rattle.never_cut.specs.Within.{is_scanning, HasRoomFor, LastsThread, Lasts}
 use Rattle.never_cut.specs.ReadOff.{IsOutputOf, IsReadOff}
 use Rattle.never_cut.specs.Image.{IsImage, stamp_at, taken_of}
@@ -130,7 +131,7 @@ module _ (program : Program) (listed : List ℕ) (words : Memory) (m : Model) (a
         expired = let is = expired_word program words m t known read.private in let few = services_few t header.expired known (omega arith) (omega arith) in omega (arith, none, is, few);
       }
 
-  pub read_lasts : ((t : ℕ) → t < length program.threads → published (thread_of m t) ≤ greatest_tail) → Lasts (2 ^ 32 - 1) m
+  pub read_lasts : ((t : ℕ) → t < length program.threads → published (queue_of (thread_of m t)) ≤ greatest_tail) → Lasts (2 ^ 32 - 1) m
   read_lasts fits = record {
     commits = let none = no_flag in let few = commits_few in omega (arith, none, few);
     threads = λ t. elim (cases_lt t (length program.threads)) [

@@ -18,7 +18,7 @@ use Rattle.push_core.proofs.Slots.{slot_in-empty}
 use Rattle.prog_check.specs.Lookup.{thread_def, source_thread}
 use Rattle.never_cut.specs.Stands.{flag, slots_of}
 use Rattle.never_cut.specs.Sound.{IsQueued}
-use Rattle.never_cut.specs.ReadOff.{slot_of, is_full_at, event_in, events_from, finished_in, released_in, held_in, queue_in}
+use Rattle.never_cut.specs.ReadOff.{slot_of, is_full_of, event_in, events_from, told_finished, told_released, told_held, told_queue}
 use Rattle.never_cut.specs.Image.{IsQueueRight}
 
 -- the numbers of a full word
@@ -105,29 +105,29 @@ module _ (program : Program) (words : Memory) (t : ℕ) where
   events_few (suc most) p = first_few p most (event_in program t p (slot_of program words t p)) (events_few most (p + 1))
 
   -- so the queue's words stand for them
-  pub queue_read : IsQueueRight program words t → StandsQueue (thread_def program t).queue (slots_of words t) (words (Tail t)) (queue_in program words t)
+  pub queue_read : IsQueueRight program words t → StandsQueue (thread_def program t).queue (slots_of words t) (words (Tail t)) (told_queue program words t)
   queue_read right = record {
-    room = events_few (thread_def program t).queue (released_in program words t);
-    full_slots = λ k lt. (events_read (thread_def program t).queue (released_in program words t) k lt).word;
+    room = events_few (thread_def program t).queue (told_released program words t);
+    full_slots = λ k lt. (events_read (thread_def program t).queue (told_released program words t) k lt).word;
     empty_slots = λ s above below.
-        let k : ℕ = s - released_in program words t in
-        let same : released_in program words t + k ≡ s = omega arith in
+        let k : ℕ = s - told_released program words t in
+        let same : told_released program words t + k ≡ s = omega arith in
         subst (λ n. words (Slot t (n % (thread_def program t).queue)) ≡ empty_word n) same ((right.slots k (omega arith)).empty (omega arith));
     tail_near = right.tail;
   }
 
   -- a finished event is still held
-  pub finished_held : IsQueueRight program words t → 0 < (thread_def program t).queue → finished_in program words t ≡ true → 0 < length (held_in program words t)
+  pub finished_held : IsQueueRight program words t → 0 < (thread_def program t).queue → told_finished program words t ≡ true → 0 < length (told_held program words t)
   finished_held right some is =
-      elim (cases_lt 0 (length (held_in program words t))) [
+      elim (cases_lt 0 (length (told_held program words t))) [
         | inl held ↦ held
         | inr none ↦
             let last : ℕ = committed words t header.finished - 1 in
-            let both = and_parts (nat_lt 0 (committed words t header.finished)) (is_full_at last (slot_of program words t last)) is in
-            let counted : released_in program words t ≡ last = ap (λ b. committed words t header.finished - flag b) is in
-            let same : released_in program words t + 0 ≡ last = omega (arith, counted) in
+            let both = and_parts (nat_lt 0 (committed words t header.finished)) (is_full_of last (slot_of program words t last)) is in
+            let counted : told_released program words t ≡ last = ap (λ b. committed words t header.finished - flag b) is in
+            let same : told_released program words t + 0 ≡ last = omega (arith, counted) in
             let empty = subst (λ n. words (Slot t (n % (thread_def program t).queue)) ≡ empty_word n) same ((right.slots 0 some).empty none) in
             let fits : last < 2 ^ 21 = subst (λ n. n < 2 ^ 21) same ((right.slots 0 some).fits none) in
             let read : slot_of program words t last ≡ Some (Empty last) = ap slot_in empty ∙ slot_in-empty last fits in
-            absurd (let clash : false ≡ true = sym (ap (is_full_at last) read) ∙ both.1 in cc)
+            absurd (let clash : false ≡ true = sym (ap (is_full_of last) read) ∙ both.1 in cc)
       ]

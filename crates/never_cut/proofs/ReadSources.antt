@@ -5,29 +5,24 @@ use Rattle.std.specs.Bool.{MatchBool}
 use Rattle.std.specs.List.{list_any}
 use Rattle.std.proofs.lemmas.Bool.{cases_Bool, cases_lt, and_parts, and_from, eq-eqb, eqb-true}
 use Rattle.ink_base.specs.declared.event.Event.{Event}
-use Rattle.ink_base.specs.declared.event.Origin.{Origin}
-use Rattle.ink_base.specs.declared.event.Origin.TheVariants as origins
 use Rattle.task_isa.specs.declared.program.Program.{Program}
 use Rattle.fram_words.specs.Places.{Memory, Ack, Src}
 use Rattle.fram_words.specs.Held.{src_of}
 use Rattle.push_core.specs.Queue.{Source, event_at, event_source, event_count, IsNumber, HoldsNumber, IsOneMore, StandsSource, Numbered, Stored, KeepsNumbers}
+use Rattle.push_core.proofs.Events.{is_number, number_source, number_count}
 use Rattle.prog_check.specs.Lookup.{source_thread}
 use Rattle.never_cut.specs.Stands.{flag}
-use Rattle.never_cut.specs.Sound.{IsQueued}
-use Rattle.never_cut.specs.ReadOff.{held_in, queue_in, is_number, is_one_more, source_in}
+use Rattle.never_cut.specs.ReadOff.{told_queue, has_number, is_one_more, told_source}
 use Rattle.never_cut.specs.Image.{own_events, held_for, IsSourceRight}
 
--- the test of a number finds the event that has it
-number_is : (program : Program) (t i number value : ℕ) (o : Origin) → IsQueued program t (record { origin = o; value = value }) →
-    is_number i number (record { origin = o; value = value }) ≡ true → IsNumber i number (record { origin = o; value = value })
-number_is program t i number value (origins.Source source count) queued is =
-    let both = and_parts (source.0 == i) (count == number % 64) is in
-    ap (λ (n : ℕ). origins.Source (record { 0 = n }) count) (eqb-true _ _ both.0) ∙ ap (λ (n : ℕ). origins.Source (record { 0 = i }) n) (eqb-true _ _ both.1)
-number_is program t i number value (origins.Pipe pipe item) queued is = absurd queued
-number_is program t i number value (origins.Timer timer deadline) queued is = absurd queued
+-- the test of a number finds the events that have it, and no other
+number_is : (i number : ℕ) (e : Event) → i < 256 → has_number i number e ≡ true → IsNumber i number e
+number_is i number e few is =
+    let both = and_parts (event_source e == i) (event_count e == number % 64) is in is_number i number e few (eqb-true _ _ both.0) (eqb-true _ _ both.1)
 
-number_found : (i number : ℕ) (e : Event) → IsNumber i number e → is_number i number e ≡ true
-number_found i number e is = ap (λ o. is_number i number (record e { origin = o })) is ∙ and_from (i == i) (number % 64 == number % 64) (eq-eqb _ _ refl) (eq-eqb _ _ refl)
+number_found : (i number : ℕ) (e : Event) → IsNumber i number e → has_number i number e ≡ true
+number_found i number e is =
+    and_from (event_source e == i) (event_count e == number % 64) (eq-eqb _ _ (number_source i number e is)) (eq-eqb _ _ (number_count i number e is))
 
 -- an event that passes a test is found, and one that is found stands somewhere
 any_at : (test : Event → Bool) (held : List Event) (k : ℕ) → k < length held → test (event_at held k) ≡ true → list_any test held ≡ true
@@ -61,27 +56,27 @@ or_right : (a b : Bool) → b ≡ true → (a || b) ≡ true
 or_right true b is = refl
 or_right false b is = is
 
-module _ (program : Program) (words : Memory) (i : ℕ) (queued : (k : ℕ) → k < length (held_for program words i) → IsQueued program (source_thread program i) (event_at (held_for program words i) k)) where
+module _ (program : Program) (words : Memory) (i : ℕ) (few : i < 256) where
   abbrev number : ℕ
   number = (src_of (words (Src i))).accepted
 
   abbrev held : List Event
   held = held_for program words i
 
-  more_found : IsOneMore i (words (Src i)) (words (Ack i)) held → is_one_more program words i ≡ true
-  more_found (inl holds) = or_left _ _ (any_at (is_number i number) held holds.0 holds.1 (number_found i number (event_at held holds.0) holds.2))
-  more_found (inr ack) = or_right (list_any (is_number i number) held) _ (eq-eqb _ _ ack)
+  pub more_found : IsOneMore i (words (Src i)) (words (Ack i)) held → is_one_more program words i ≡ true
+  more_found (inl holds) = or_left _ _ (any_at (has_number i number) held holds.0 holds.1 (number_found i number (event_at held holds.0) holds.2))
+  more_found (inr ack) = or_right (list_any (has_number i number) held) _ (eq-eqb _ _ ack)
 
-  more_is : is_one_more program words i ≡ true → IsOneMore i (words (Src i)) (words (Ack i)) held
-  more_is is = elim (or_parts (list_any (is_number i number) held) (words (Ack i) == (number + 1) % 64) is) [
+  pub more_is : is_one_more program words i ≡ true → IsOneMore i (words (Src i)) (words (Ack i)) held
+  more_is is = elim (or_parts (list_any (has_number i number) held) (words (Ack i) == (number + 1) % 64) is) [
     | inl some ↦
-        let found = any_found (is_number i number) held some in
-        inl (found.0, found.1, number_is program (source_thread program i) i number (event_at held found.0).value (event_at held found.0).origin (queued found.0 found.1) found.2)
+        let found = any_found (has_number i number) held some in
+        inl (found.0, found.1, number_is i number (event_at held found.0) few found.2)
     | inr ack ↦ inr (eqb-true _ _ ack)
   ]
 
   -- so the words stand for the source that they tell
-  pub source_read : StandsSource i (words (Src i)) (words (Ack i)) held (source_in program words i)
+  pub source_read : StandsSource i (words (Src i)) (words (Ack i)) held (told_source program words i)
   source_read = record {
     one_more = λ more.
         let is : flag (is_one_more program words i) ≡ 1 = ap flag (more_found more) in
@@ -93,7 +88,7 @@ module _ (program : Program) (words : Memory) (i : ℕ) (queued : (k : ℕ) → 
   }
 
 -- the counts of a source's events are in order where each is what those before it make it
-abbrev AreCounted : (i : ℕ) → List Event → (first : ℕ) → Type 0
+abbrev pub AreCounted : (i : ℕ) → List Event → (first : ℕ) → Type 0
 AreCounted i held first =
     (j : ℕ) → j < length held → event_source (event_at held j) ≡ i → event_count (event_at held j) ≡ (first + own_events i (take j held)) % 64
 
@@ -121,6 +116,36 @@ numbered : (i : ℕ) (held : List Event) (first : ℕ) → AreCounted i held fir
 numbered i [] first counts = omega arith
 numbered i (e ∷ held) first counts = first_numbered i e held first (event_source e == i) refl counts (λ n more. numbered i held n more)
 
+-- and the other way round
+first_counted : (i : ℕ) (e : Event) (held : List Event) (first last : ℕ) (b : Bool) → (event_source e == i) ≡ b →
+    ((n : ℕ) → Numbered i held n last → (last ≡ n + own_events i held) × AreCounted i held n) →
+    MatchBool b ((event_count e ≡ first % 64) × Numbered i held (suc first) last) (Numbered i held first last) →
+    (last ≡ first + (cond b 1 0 + own_events i held))
+    × ((j : ℕ) → j < length (e ∷ held) → event_source (event_at (e ∷ held) j) ≡ i → event_count (event_at (e ∷ held) j) ≡ (first + own_events i (take j (e ∷ held))) % 64)
+first_counted i e held first last true test rest h =
+    let back = rest (suc first) h.1 in (omega (arith, back.0), each)
+  where
+    each : (j : ℕ) → j < length (e ∷ held) → event_source (event_at (e ∷ held) j) ≡ i → event_count (event_at (e ∷ held) j) ≡ (first + own_events i (take j (e ∷ held))) % 64
+    each zero lt own = h.0 ∙ ap (λ n. n % 64) (let z : first ≡ first + 0 = omega arith in z)
+    each (suc j) lt own =
+        (rest (suc first) h.1).1 j (omega arith) own
+        ∙ ap (λ n. n % 64) (let s : suc first + own_events i (take j held) ≡ first + (1 + own_events i (take j held)) = omega arith in s)
+        ∙ ap (λ (b : Bool). (first + (cond b 1 0 + own_events i (take j held))) % 64) (sym test)
+first_counted i e held first last false test rest h =
+    let back = rest first h in (omega (arith, back.0), each)
+  where
+    each : (j : ℕ) → j < length (e ∷ held) → event_source (event_at (e ∷ held) j) ≡ i → event_count (event_at (e ∷ held) j) ≡ (first + own_events i (take j (e ∷ held))) % 64
+    each zero lt own = absurd (let clash : false ≡ true = sym test ∙ eq-eqb _ _ own in cc)
+    each (suc j) lt own =
+        (rest first h).1 j (omega arith) own
+        ∙ ap (λ n. n % 64) (let s : first + own_events i (take j held) ≡ first + (0 + own_events i (take j held)) = omega arith in s)
+        ∙ ap (λ (b : Bool). (first + (cond b 1 0 + own_events i (take j held))) % 64) (sym test)
+
+pub counted : (i : ℕ) (held : List Event) (first last : ℕ) → Numbered i held first last → (last ≡ first + own_events i held) × AreCounted i held first
+counted i [] first last h = (omega (arith, h), λ j lt own. absurd (omega arith))
+counted i (e ∷ held) first last h =
+    let back = first_counted i e held first last (event_source e == i) refl (λ n more. counted i held n last more) h in (back.0, back.1)
+
 -- a source that has events among these has one somewhere
 some_own : (i : ℕ) (held : List Event) → 0 < own_events i held → (j : ℕ) × (j < length held) × (event_source (event_at held j) ≡ i)
 some_own i [] some = absurd (omega arith)
@@ -134,14 +159,14 @@ some_own i (e ∷ held) some =
 
 module _ (program : Program) (words : Memory) (i : ℕ) (right : IsSourceRight program words i) where
   -- no more events are held than were accepted
-  held_accepted : own_events i (held_for program words i) ≤ (source_in program words i).accepted
+  held_accepted : own_events i (held_for program words i) ≤ (told_source program words i).accepted
   held_accepted =
       elim (cases_lt 0 (own_events i (held_for program words i))) [
         | inl some ↦ let found = some_own i (held_for program words i) some in (right.counts found.0 found.1 found.2).0
         | inr none ↦ omega arith
       ]
 
-  stored : Stored (words (Src i)) (source_in program words i)
+  stored : Stored (words (Src i)) (told_source program words i)
   stored =
       let src : ℕ = words (Src i) in (
         src % 2 ^ 32,
@@ -154,10 +179,10 @@ module _ (program : Program) (words : Memory) (i : ℕ) (right : IsSourceRight p
       )
 
   -- its numbers are kept in order
-  pub source_keeps : KeepsNumbers i (words (Src i)) (words (Ack i)) (queue_in program words (source_thread program i)) (source_in program words i)
+  pub source_keeps : KeepsNumbers i (words (Src i)) (words (Ack i)) (told_queue program words (source_thread program i)) (told_source program words i)
   source_keeps =
-      let gone : ℕ = (source_in program words i).accepted - own_events i (held_for program words i) in
-      let all : gone + own_events i (held_for program words i) ≡ (source_in program words i).accepted = omega (arith, held_accepted) in
+      let gone : ℕ = (told_source program words i).accepted - own_events i (held_for program words i) in
+      let all : gone + own_events i (held_for program words i) ≡ (told_source program words i).accepted = omega (arith, held_accepted) in
       record {
         gone = gone;
         numbered = subst (Numbered i (held_for program words i) gone) all (numbered i (held_for program words i) gone (λ j lt is. (right.counts j lt is).1));
@@ -166,5 +191,5 @@ module _ (program : Program) (words : Memory) (i : ℕ) (right : IsSourceRight p
       }
 
   -- no more readings are accepted than settled
-  pub source_ordered : (source_in program words i).accepted ≤ (source_in program words i).next
+  pub source_ordered : (told_source program words i).accepted ≤ (told_source program words i).next
   source_ordered = let le = right.src in omega arith

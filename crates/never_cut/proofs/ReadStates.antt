@@ -15,20 +15,19 @@ use Rattle.fram_words.specs.Held.{next_word, origin_word, origin_of, HasOriginBi
 use Rattle.fram_words.proofs.ReadBack.{origin_of-origin_word}
 use Rattle.thread_state.specs.Pages.{committed}
 use Rattle.push_core.specs.Table.{greatest_tail}
-use Rattle.push_core.specs.Queue.{Queue, event_at}
-use Rattle.push_core.specs.Queue as queues
+use Rattle.push_core.specs.Queue.{Queue, Source, published, event_at}
 use Rattle.prog_check.specs.Accepted.{IsAccepted}
 use Rattle.prog_check.specs.Lookup.{thread_def, pipe_def, timer_def, source_thread}
 use Rattle.ink_layout.specs.Shape.{pages_of}
 use Rattle.never_cut.specs.declared.model.Model.{Model}
 use Rattle.never_cut.specs.declared.scan_model.ScanModel.{ScanModel}
-use Rattle.never_cut.specs.State.{thread_of, pipe_of, timer_of, source_of}
+use Rattle.never_cut.specs.State.{thread_of, pipe_of, timer_of, source_of, queue_of, source_in}
 use Rattle.never_cut.specs.Commit.{outputs_of}
 use Rattle.never_cut.specs.Entries.{Readings, readings_of, IsCalm}
-use Rattle.never_cut.specs.Stands.{flag, published}
+use Rattle.never_cut.specs.Stands.{flag}
 use Rattle.never_cut.specs.Ranges.{IsOwnOrigin, IsTaskOf}
 use Rattle.never_cut.specs.Sound.{unsettled_into, IsQueued, IsServed, IsChain, IsSoundThread, IsSoundPipe, IsSoundTimer, IsSoundSource, IsSound}
-use Rattle.never_cut.specs.ReadOff.{finished_in, released_in, held_in, queue_in, source_in, HasQueueOf, IsReadOff}
+use Rattle.never_cut.specs.ReadOff.{told_finished, told_released, told_held, told_queue, told_source, IsReadOff}
 use Rattle.never_cut.specs.Image.{HasChain, IsChainOrigin, IsChainValue, IsTakenLast, IsServedFirst, IsBlockWord, IsImage, taken_of, written_of}
 use Rattle.never_cut.specs.Worn.{IsWorn, ManyReadings, LateClock, ManyCommits, ManyServices, ManyWritten, ManyTaken, ManyPositions, listed_into}
 use Rattle.never_cut.specs.Images.{AreListed}
@@ -37,7 +36,7 @@ use Rattle.never_cut.proofs.ReadQueues.{events_read, finished_held}
 use Rattle.never_cut.proofs.ReadSources.{source_ordered}
 
 -- the numbers of an origin of a thread's own have their bits
-own_bits : (program : Program) (t : ℕ) (o : Origin) → IsAccepted program → IsOwnOrigin program t o → HasOriginBits o
+pub own_bits : (program : Program) (t : ℕ) (o : Origin) → IsAccepted program → IsOwnOrigin program t o → HasOriginBits o
 own_bits program t (origins.Source source count) accepted own = let few = accepted.counts.sources in (let lt = own.0 in omega arith, let lt = own.2 in omega arith)
 own_bits program t (origins.Pipe pipe item) accepted own = let few = accepted.counts.pipes in (let lt = own.0 in omega arith, own.2)
 own_bits program t (origins.Timer timer deadline) accepted own = let few = accepted.counts.timers in (let lt = own.0 in omega arith, own.2)
@@ -52,7 +51,7 @@ unsettled_listed program readings listed m t (suc i) are =
     ∙ ap (λ n. listed_into program listed t i + (if source_thread program i == t then n else 0)) here
 
 -- a running chain has a word that isn't 0
-next_some : (task : TaskId) → next_word (Some task) ≢ 0
+pub next_some : (task : TaskId) → next_word (Some task) ≢ 0
 next_some task e = omega arith
 
 idle_of : (o : Option TaskId) → next_word o ≡ 0 → o ≡ None
@@ -70,23 +69,26 @@ module _ (program : Program) (readings : Readings) (listed : List ℕ) (words : 
   checked t w known lt = image.blocks t w known (omega arith)
 
   module _ (t : ℕ) (known : t < length program.threads) where
-    abbrev q : HasQueueOf program words m t
-    q = read.queues t known
+    held_is : (thread_of m t).held ≡ told_held program words t
+    held_is = ap (λ (q : Queue). q.held) (read.queues t known)
+
+    finished_is : (thread_of m t).finished ≡ told_finished program words t
+    finished_is = ap (λ (q : Queue). q.finished) (read.queues t known)
 
     places_some : 0 < (thread_def program t).queue
     places_some = let least = (accepted.threads t known).queue_least in omega arith
 
-    held_queued : (k : ℕ) → k < length (held_in program words t) → IsQueued program t (event_at (held_in program words t) k)
-    held_queued k lt = (events_read program words t (thread_def program t).queue (released_in program words t) k lt).queued
+    held_queued : (k : ℕ) → k < length (told_held program words t) → IsQueued program t (event_at (told_held program words t) k)
+    held_queued k lt = (events_read program words t (thread_def program t).queue (told_released program words t) k lt).queued
 
     model_queued : (k : ℕ) → k < length (thread_of m t).held → IsQueued program t (event_at (thread_of m t).held k)
-    model_queued = subst (λ (l : List Event). (k : ℕ) → k < length l → IsQueued program t (event_at l k)) (sym q.held) held_queued
+    model_queued = subst (λ (l : List Event). (k : ℕ) → k < length l → IsQueued program t (event_at l k)) (sym held_is) held_queued
 
     model_idle : (thread_of m t).finished ≡ true → (0 < length (thread_of m t).held) × ((thread_of m t).running ≡ None)
     model_idle is =
-        let done : finished_in program words t ≡ true = sym q.finished ∙ is in
+        let done : told_finished program words t ≡ true = sym finished_is ∙ is in
         let right = image.queues t known in (
-          subst (λ (l : List Event). 0 < length l) (sym q.held) (finished_held program words t right places_some done),
+          subst (λ (l : List Event). 0 < length l) (sym held_is) (finished_held program words t right places_some done),
           idle_of (thread_of m t).running (sym (running_word program words m t known read.private) ∙ right.idle done),
         )
 
@@ -103,7 +105,7 @@ module _ (program : Program) (readings : Readings) (listed : List ℕ) (words : 
         let value : IsChainValue e.origin e.value =
         subst (λ (z : Origin × ℕ). IsChainValue z.0 z.1) (λ k. (back k, told.1 k)) ((checked t header.value known (omega arith)).value refl chain) in
         let first : IsServedFirst (thread_of m t).held e.origin e.value =
-        subst (λ (z : List Event × Origin × ℕ). IsServedFirst z.0 z.1 z.2) (λ k. (sym q.held k, back k, told.1 k)) ((image.queues t known).served chain) in
+        subst (λ (z : List Event × Origin × ℕ). IsServedFirst z.0 z.1 z.2) (λ k. (sym held_is k, back k, told.1 k)) ((image.queues t known).served chain) in
         by_origin e.origin e.value own last value first
       where
         by_origin : (o : Origin) (v : ℕ) → IsOwnOrigin program t o → IsTakenLast words t o → IsChainValue o v → IsServedFirst (thread_of m t).held o v →
@@ -133,12 +135,12 @@ module _ (program : Program) (readings : Readings) (listed : List ℕ) (words : 
           ];
         }
 
-    positions : published (thread_of m t) + unsettled_into program readings m t (length program.sources) ≤ greatest_tail
+    positions : published (queue_of (thread_of m t)) + unsettled_into program readings m t (length program.sources) ≤ greatest_tail
     positions =
-        let count : published (thread_of m t) ≡ queues.published (queue_in program words t) = λ k. q.released k + length (q.held k) in
+        let count : published (queue_of (thread_of m t)) ≡ published (told_queue program words t) = ap published (read.queues t known) in
         let same : unsettled_into program readings m t (length program.sources) ≡ listed_into program listed t (length program.sources) =
         unsettled_listed program readings listed m t (length program.sources) are in
-        elim (cases_lt greatest_tail (queues.published (queue_in program words t) + listed_into program listed t (length program.sources))) [
+        elim (cases_lt greatest_tail (published (told_queue program words t) + listed_into program listed t (length program.sources))) [
           | inl many ↦ absurd (fresh (ManyPositions t known many))
           | inr fits ↦ rw (count, same) fits
         ]
@@ -183,10 +185,14 @@ module _ (program : Program) (readings : Readings) (listed : List ℕ) (words : 
 
   source_sound : (i : ℕ) → i < length program.sources → IsSoundSource readings m i
   source_sound i known =
-      let s = read.sources i known in record {
-        ordered = let le = source_ordered program words i (image.sources i known) in omega (arith, s.accepted, s.next, le);
+      let is = read.sources i known in
+      let accepted_is : (source_of m i).accepted ≡ (told_source program words i).accepted = ap (λ (s : Source). s.accepted) is in
+      let next_is : (source_of m i).next ≡ (told_source program words i).next = ap (λ (s : Source). s.next) is in
+      let unmarked : (source_of m i).refused ≡ false = ap (λ (s : Source). s.refused) is in
+      record {
+        ordered = let le = source_ordered program words i (image.sources i known) in omega (arith, accepted_is, next_is, le);
         within = let is = are i known in omega (arith, is);
-        refused = λ is. absurd (let clash : false ≡ true = sym s.refused ∙ is in cc);
+        refused = λ marked. absurd (let clash : false ≡ true = sym unmarked ∙ marked in cc);
       }
 
   clock_early : m.clock < 2 ^ 46

@@ -16,7 +16,7 @@ use Rattle.prog_check.specs.Lookup.{thread_def, pipe_def, task_def, instr_at, so
 use Rattle.ink_layout.specs.Shape.{pages_of}
 use Rattle.never_cut.specs.Stands.{writes_pipe, reads_pipe, owns_timer}
 use Rattle.never_cut.specs.Ranges.{IsOwnOrigin, IsTaskOf}
-use Rattle.never_cut.specs.ReadOff.{queue_in, finished_in, held_in, released_in, source_in}
+use Rattle.never_cut.specs.ReadOff.{told_queue, told_finished, told_held, told_released, told_source}
 
 -- 1. Code. At each code word: it is the program's.
 abbrev pub IsCodeWord : Program → Memory → (x n : ℕ) → Type 0
@@ -93,21 +93,21 @@ pub record IsLogWord (program : Program) (words : Memory) (t n : ℕ) : Type 0 w
 
 -- 6. Queues. At the slot of position r + k, from the position r of the first held event on: behind the held events it has the empty word of its position.
 pub record IsSlotWord (program : Program) (words : Memory) (t k : ℕ) : Type 0 where
-  pub empty : length (held_in program words t) ≤ k →
-      words (Slot t ((released_in program words t + k) % (thread_def program t).queue)) ≡ empty_word (released_in program words t + k)
-  pub fits : length (held_in program words t) ≤ k → released_in program words t + k < 2 ^ 21
+  pub empty : length (told_held program words t) ≤ k →
+      words (Slot t ((told_released program words t + k) % (thread_def program t).queue)) ≡ empty_word (told_released program words t + k)
+  pub fits : length (told_held program words t) ≤ k → told_released program words t + k < 2 ^ 21
 
 -- At TAIL: it is the number of published events, or one behind.
 abbrev pub IsTailWord : Program → Memory → (t : ℕ) → Type 0
-IsTailWord program words t = (words (Tail t) ≡ published (queue_in program words t)) ⊎ (words (Tail t) + 1 ≡ published (queue_in program words t))
+IsTailWord program words t = (words (Tail t) ≡ published (told_queue program words t)) ⊎ (words (Tail t) + 1 ≡ published (told_queue program words t))
 
 -- At h5: no earlier thread has a finished event beside this one's.
 abbrev pub IsOnlyFinished : Program → Memory → (t : ℕ) → Type 0
-IsOnlyFinished program words t = finished_in program words t ≡ true → (u : ℕ) → u < t → finished_in program words u ≡ false
+IsOnlyFinished program words t = told_finished program words t ≡ true → (u : ℕ) → u < t → told_finished program words u ≡ false
 
 -- At h1: a thread with a finished event is idle.
 abbrev pub IsIdleFinished : Program → Memory → (t : ℕ) → Type 0
-IsIdleFinished program words t = finished_in program words t ≡ true → committed words t header.next ≡ 0
+IsIdleFinished program words t = told_finished program words t ≡ true → committed words t header.next ≡ 0
 
 -- the event of a source is the first of these; of another event nothing is asked
 abbrev pub IsServedFirst : List Event → Origin → (value : ℕ) → Type 0
@@ -119,7 +119,7 @@ IsServedFirst held (origins.Timer timer deadline) value = Unit {0}
 -- At h3: a running chain of a source's event has the first held one.
 abbrev pub IsFirstServed : Program → Memory → (t : ℕ) → Type 0
 IsFirstServed program words t =
-    HasChain words t → IsServedFirst (held_in program words t) (origin_of (committed words t header.origin)) (committed words t header.value)
+    HasChain words t → IsServedFirst (told_held program words t) (origin_of (committed words t header.origin)) (committed words t header.value)
 
 -- 7. Sources. At SRC: no more readings are accepted than settled.
 abbrev pub IsSrcWord : Memory → (i : ℕ) → Type 0
@@ -131,22 +131,22 @@ own_events i held = count_by (λ (e : Event). event_source e == i) held
 
 -- the events that the queue of a source holds
 abbrev pub held_for : Program → Memory → (i : ℕ) → List Event
-held_for program words i = held_in program words (source_thread program i)
+held_for program words i = told_held program words (source_thread program i)
 
 -- At the slot of the j-th held event, where it is of the source: no more events of it are held than it has accepted, and its count is what is left of the
 -- accepted number, and one more for each of them before it, modulo 64.
 abbrev pub IsCountWord : Program → Memory → (i j : ℕ) → Type 0
 IsCountWord program words i j =
     event_source (event_at (held_for program words i) j) ≡ i →
-    (own_events i (held_for program words i) ≤ (source_in program words i).accepted)
+    (own_events i (held_for program words i) ≤ (told_source program words i).accepted)
     × (event_count (event_at (held_for program words i) j)
-    ≡ ((source_in program words i).accepted - own_events i (held_for program words i) + own_events i (take j (held_for program words i))) % 64)
+    ≡ ((told_source program words i).accepted - own_events i (held_for program words i) + own_events i (take j (held_for program words i))) % 64)
 
 -- At ACK: it is the accepted number without those that are held, modulo 64, or one more where the first of them is finished.
 abbrev pub IsAckWord : Program → Memory → (i : ℕ) → Type 0
 IsAckWord program words i =
-    let gone : ℕ = (source_in program words i).accepted - own_events i (held_for program words i) in
-    (words (Ack i) ≡ gone % 64) ⊎ (IsFinishing i (queue_in program words (source_thread program i)) × (words (Ack i) ≡ (gone + 1) % 64))
+    let gone : ℕ = (told_source program words i).accepted - own_events i (held_for program words i) in
+    (words (Ack i) ≡ gone % 64) ⊎ (IsFinishing i (told_queue program words (source_thread program i)) × (words (Ack i) ≡ (gone + 1) % 64))
 
 -- the checks of a pipe, of a thread's queue and of a source
 pub record IsPipeRight (program : Program) (words : Memory) (q : ℕ) : Type 0 where

@@ -1,18 +1,25 @@
 -- Images and states: what each tells of the other.
-use Rattle.std.specs.Prelude.{◌≡◌, ℕ, ◌+◌, ◌<◌, List, length, slice_index}
+use Rattle.std.specs.Prelude.{◌≡◌, ◌≢◌, ℕ, ◌+◌, ◌^◌, ◌<◌, ◌≤◌, true, false, List, length, slice_index, All}
+use Rattle.std.specs.List.Sorted.{IsNonDecreasingBy}
+use Rattle.ink_base.specs.declared.output.Output.{Output}
 use Rattle.task_isa.specs.declared.program.Program.{Program}
 use Rattle.fram_words.specs.Places.{Memory, Ack, Src}
+use Rattle.fram_words.specs.Header as header
+use Rattle.thread_state.specs.Pages.{committed}
 use Rattle.push_core.specs.Queue.{KeepsNumbers}
 use Rattle.prog_check.specs.Accepted.{IsAccepted}
 use Rattle.prog_check.specs.Lookup.{source_thread}
 use Rattle.never_cut.specs.declared.model.Model.{Model}
-use Rattle.never_cut.specs.State.{source_of}
+use Rattle.never_cut.specs.State.{thread_of, source_of, queue_of, source_in}
 use Rattle.never_cut.specs.Entries.{Readings, readings_of}
+use Rattle.never_cut.specs.Commit.{outputs_of}
 use Rattle.never_cut.specs.Stands.{Stands}
+use Rattle.never_cut.specs.Sound.{IsSound}
 use Rattle.never_cut.specs.Start.{CanStart}
-use Rattle.never_cut.specs.Image.{IsImage}
+use Rattle.never_cut.specs.Within.{Lasts}
+use Rattle.never_cut.specs.Image.{IsCommitWord, IsImage}
 use Rattle.never_cut.specs.Worn.{IsWorn}
-use Rattle.never_cut.specs.ReadOff.{IsReadOff, queue_in, source_in}
+use Rattle.never_cut.specs.ReadOff.{IsReadOff}
 
 -- each source has the readings that are listed for it behind those that the state has settled
 abbrev pub AreListed : Program → (listed : List ℕ) → Model → Readings → Type 0
@@ -22,7 +29,7 @@ AreListed program listed m readings = (i : ℕ) → i < length program.sources �
 pub record IsStanding (program : Program) (readings : Readings) (words : Memory) (m : Model) : Type 0 where
   pub stands : Stands words program m
   pub numbers : (i : ℕ) → i < length program.sources →
-      KeepsNumbers i (words (Src i)) (words (Ack i)) (queue_in program words (source_thread program i)) (source_in program words i)
+      KeepsNumbers i (words (Src i)) (words (Ack i)) (queue_of (thread_of m (source_thread program i))) (source_in (source_of m i))
   pub start : CanStart program readings m
 
 -- an image that isn't worn stands for the state that is read off it, and a run can begin at that state
@@ -42,10 +49,10 @@ pub record KeepsImage (program : Program) (words : Memory) (m : Model) : Type 0 
   pub apart : (t u : ℕ) → t < length program.threads → u < t → All (λ (o : Output). All (λ (other : Output). other.stamp ≢ o.stamp) (outputs_of m u)) (outputs_of m t)
   pub only : (t u : ℕ) → t < length program.threads → u < t → (thread_of m t).finished ≡ true → (thread_of m u).finished ≡ false
   pub numbers : (i : ℕ) → i < length program.sources →
-      KeepsNumbers i (words (Src i)) (words (Ack i)) (queue_of (thread_of m (source_thread program i))) (source_of_model (source_of m i))
+      KeepsNumbers i (words (Src i)) (words (Ack i)) (queue_of (thread_of m (source_thread program i))) (source_in (source_of m i))
 
--- words that stand for a sound state, and keep what an image promises beside, are an image
+-- words that stand for a sound state whose counts have their room, and keep what an image promises beside, are an image
 abbrev pub EveryStateIsImage : Type 0
 EveryStateIsImage =
-    (program : Program) (readings : Readings) (words : Memory) (m : Model) → IsAccepted program → IsSound program readings m → Stands words program m →
-    KeepsImage program words m → IsImage program words
+    (program : Program) (readings : Readings) (words : Memory) (m : Model) → IsAccepted program → IsSound program readings m → Lasts 0 m →
+    Stands words program m → KeepsImage program words m → IsImage program words

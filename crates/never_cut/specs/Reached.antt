@@ -3,12 +3,12 @@ use Rattle.std.specs.Prelude.{ℕ, ◌+◌, ◌^◌, ◌<◌, ◌≤◌, List, l
 use Rattle.ink_base.specs.declared.entry.Entry.{Entry}
 use Rattle.task_isa.specs.declared.program.Program.{Program}
 use Rattle.push_core.specs.Table.{greatest_tail}
+use Rattle.push_core.specs.Queue.{published}
 use Rattle.prog_check.specs.Accepted.{IsAccepted}
 use Rattle.never_cut.specs.declared.model.Model.{Model}
-use Rattle.never_cut.specs.State.{thread_of}
+use Rattle.never_cut.specs.State.{thread_of, queue_of}
 use Rattle.never_cut.specs.Entries.{Readings, Legal, effect}
 use Rattle.never_cut.specs.Journal.{after, IsLegal}
-use Rattle.never_cut.specs.Stands.{published}
 use Rattle.never_cut.specs.Sound.{IsSound}
 use Rattle.never_cut.specs.Actors.{IsOther, Follows}
 use Rattle.never_cut.specs.Within.{AreReadings, AreShort, HasRoom}
@@ -30,7 +30,7 @@ EveryEntryKeeps =
 -- the positions of a sound state's queues are at most the greatest tail
 abbrev pub EveryPositionFits : Type 0
 EveryPositionFits =
-    (program : Program) (readings : Readings) (m : Model) (t : ℕ) → IsSound program readings m → t < length program.threads → published (thread_of m t) ≤ greatest_tail
+    (program : Program) (readings : Readings) (m : Model) (t : ℕ) → IsSound program readings m → t < length program.threads → published (queue_of (thread_of m t)) ≤ greatest_tail
 
 -- after a legal journal of fewer than 2^32 entries, from a state at which a run can begin, there is room for one more
 abbrev pub EveryStateHasRoom : Type 0

@@ -1,4 +1,4 @@
--- What the words of a board tell of its queues and sources, and the state that is read off them.
+-- The queues and sources that the words of a board tell, and the state that is read off them.
 use Rattle.std.specs.Prelude.{◌≡◌, ℕ, zero, suc, ◌+◌, ◌-◌, ◌%◌, ◌^◌, ◌<◌, ◌==◌, ◌&&◌, ◌||◌, nat_lt, Bool, false, if◌then◌else◌, List, [], ◌∷◌, length, All, Option, Some, None}
 use Rattle.std.specs.List.{list_any}
 use Rattle.std.specs.List.Sorted.{IsNonDecreasingBy}
@@ -17,7 +17,7 @@ use Rattle.push_core.specs.declared.slot.Slot as slot
 use Rattle.push_core.specs.declared.slot.Slot.TheVariants as slots
 use Rattle.prog_check.specs.Lookup.{thread_def, source_thread}
 use Rattle.never_cut.specs.declared.model.Model.{Model}
-use Rattle.never_cut.specs.State.{thread_of, source_of}
+use Rattle.never_cut.specs.State.{thread_of, source_of, queue_of, source_in}
 use Rattle.never_cut.specs.Stands.{flag, StandsPrivate}
 use Rattle.never_cut.specs.Sound.{HasShape}
 use Rattle.never_cut.specs.Ranges.{IsOwnOrigin}
@@ -27,9 +27,9 @@ abbrev pub slot_of : Program → Memory → (t p : ℕ) → Option slot.Slot
 slot_of program words t p = slot_in (words (Slot t (p % (thread_def program t).queue)))
 
 -- it is a full word of this position
-abbrev pub is_full_at : (p : ℕ) → Option slot.Slot → Bool
-is_full_at p (Some (slots.Full q source count value)) = q == p
-is_full_at p _ = false
+abbrev pub is_full_of : (p : ℕ) → Option slot.Slot → Bool
+is_full_of p (Some (slots.Full q source count value)) = q == p
+is_full_of p _ = false
 
 -- its event, where it is a full word of this position from a source of the thread
 abbrev pub event_in : Program → (t p : ℕ) → Option slot.Slot → Option Event
@@ -46,50 +46,38 @@ events_from program words t p (suc most) =
     elim (event_in program t p (slot_of program words t p)) [ None ↦ [] | Some e ↦ e ∷ events_from program words t (p + 1) most ]
 
 -- the last event that was finished is still held: there is one, and its slot has a full word of its position
-abbrev pub finished_in : Program → Memory → (t : ℕ) → Bool
-finished_in program words t = nat_lt 0 (committed words t header.finished) && is_full_at (committed words t header.finished - 1) (slot_of program words t (committed words t header.finished - 1))
+abbrev pub told_finished : Program → Memory → (t : ℕ) → Bool
+told_finished program words t = nat_lt 0 (committed words t header.finished) && is_full_of (committed words t header.finished - 1) (slot_of program words t (committed words t header.finished - 1))
 
 -- so it isn't counted as released
-abbrev pub released_in : Program → Memory → (t : ℕ) → ℕ
-released_in program words t = committed words t header.finished - flag (finished_in program words t)
+abbrev pub told_released : Program → Memory → (t : ℕ) → ℕ
+told_released program words t = committed words t header.finished - flag (told_finished program words t)
 
 -- the events that stand from there on are held
-abbrev pub held_in : Program → Memory → (t : ℕ) → List Event
-held_in program words t = events_from program words t (released_in program words t) (thread_def program t).queue
+abbrev pub told_held : Program → Memory → (t : ℕ) → List Event
+told_held program words t = events_from program words t (told_released program words t) (thread_def program t).queue
 
--- the queue of a thread, as the words tell it
-abbrev pub queue_in : Program → Memory → (t : ℕ) → Queue
-queue_in program words t = record { held = held_in program words t; finished = finished_in program words t; released = released_in program words t }
+-- the queue of a thread that the words tell
+abbrev pub told_queue : Program → Memory → (t : ℕ) → Queue
+told_queue program words t = record { held = told_held program words t; finished = told_finished program words t; released = told_released program words t }
 
 -- the event is the one of source i with this number
-abbrev pub is_number : (i number : ℕ) → Event → Bool
-is_number i number e = (event_source e == i) && (event_count e == number % 64)
+abbrev pub has_number : (i number : ℕ) → Event → Bool
+has_number i number e = (event_source e == i) && (event_count e == number % 64)
 
 -- the event after those that SRC counts is held, or ACK counts it
 abbrev pub is_one_more : Program → Memory → (i : ℕ) → Bool
 is_one_more program words i =
-    list_any (is_number i (src_of (words (Src i))).accepted) (held_in program words (source_thread program i)) || (words (Ack i) == ((src_of (words (Src i))).accepted + 1) % 64)
+    list_any (has_number i (src_of (words (Src i))).accepted) (told_held program words (source_thread program i)) || (words (Ack i) == ((src_of (words (Src i))).accepted + 1) % 64)
 
--- the source, as the words tell it: as SRC says, or with one more accepted and settled
-abbrev pub source_in : Program → Memory → (i : ℕ) → Source
-source_in program words i =
+-- the source that they tell: as SRC says, or with one more accepted and settled
+abbrev pub told_source : Program → Memory → (i : ℕ) → Source
+told_source program words i =
     record {
       next = (src_of (words (Src i))).next + flag (is_one_more program words i);
       accepted = (src_of (words (Src i))).accepted + flag (is_one_more program words i);
       refused = false;
     }
-
--- a thread's queue in a state is the one that the words tell
-pub record HasQueueOf (program : Program) (words : Memory) (m : Model) (t : ℕ) : Type 0 where
-  pub held : (thread_of m t).held ≡ held_in program words t
-  pub finished : (thread_of m t).finished ≡ finished_in program words t
-  pub released : (thread_of m t).released ≡ released_in program words t
-
--- a source in a state is the one that the words tell
-pub record HasSourceOf (program : Program) (words : Memory) (m : Model) (i : ℕ) : Type 0 where
-  pub next : (source_of m i).next ≡ (source_in program words i).next
-  pub accepted : (source_of m i).accepted ≡ (source_in program words i).accepted
-  pub refused : (source_of m i).refused ≡ false
 
 -- an idle thread has no event; a running chain has one of its thread's own
 pub record HasEventOf (program : Program) (m : Model) (t : ℕ) : Type 0 where
@@ -106,8 +94,8 @@ pub record IsReadOff (program : Program) (words : Memory) (m : Model) : Type 0 w
   pub shape : HasShape program m
   pub private : StandsPrivate words program m
   pub events : (t : ℕ) → t < length program.threads → HasEventOf program m t
-  pub queues : (t : ℕ) → t < length program.threads → HasQueueOf program words m t
-  pub sources : (i : ℕ) → i < length program.sources → HasSourceOf program words m i
+  pub queues : (t : ℕ) → t < length program.threads → queue_of (thread_of m t) ≡ told_queue program words t
+  pub sources : (i : ℕ) → i < length program.sources → source_in (source_of m i) ≡ told_source program words i
   pub outputs : All (IsOutputOf program) m.outputs
   pub ordered : IsNonDecreasingBy (λ (o : Output). o.stamp) m.outputs
   pub clock : m.clock ≡ words Clock

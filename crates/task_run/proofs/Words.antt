@@ -7,7 +7,7 @@ use Rattle.ink_base.specs.declared.output.Output.{Output}
 use Rattle.fram_words.specs.Held.{next_word}
 use Rattle.thread_state.specs.Pages.{put}
 use Rattle.never_cut.specs.Stands.{Saved, thread_words}
-pub use Rattle.never_cut.proofs.Blocks.{below_eight}
+use Rattle.never_cut.proofs.Blocks.{below_eight, header_list}
 use Rattle.task_run.specs.declared.ending.Ending.{Ending}
 use Rattle.task_run.specs.declared.ending.Ending.TheVariants as endings
 use Rattle.task_run.specs.Endings.{total_word}
@@ -19,16 +19,6 @@ put_set xs i v w lt =
       | inl e ↦ rw (eq-eqb w i e) (sym (ap (λ k. get_or (set xs i v) k 0) e ∙ get_or-set_same xs i v 0 lt))
       | inr ne ↦ rw (ne_eqb w i ne) (sym (get_or-set_other xs i w v 0 ne))
     ]
-
--- the words before the state
-abbrev header : Saved → ℕ → ℕ → ℕ → List ℕ
-header y s o v =
-    s ∷ next_word y.running ∷ y.first ∷ o ∷ v ∷ y.ended ∷ y.served ∷ y.trapped ∷ y.expired ∷ length y.outputs
-    ∷ y.written 0 ∷ y.written 1 ∷ y.written 2 ∷ y.written 3 ∷ y.written 4 ∷ y.written 5 ∷ y.written 6 ∷ y.written 7
-    ∷ y.taken 0 ∷ y.taken 1 ∷ y.taken 2 ∷ y.taken 3 ∷ y.taken 4 ∷ y.taken 5 ∷ y.taken 6 ∷ y.taken 7
-    ∷ y.due 0 ∷ y.period 0 ∷ y.due 1 ∷ y.period 1 ∷ y.due 2 ∷ y.period 2 ∷ y.due 3 ∷ y.period 3
-    ∷ y.due 4 ∷ y.period 4 ∷ y.due 5 ∷ y.period 5 ∷ y.due 6 ∷ y.period 6 ∷ y.due 7 ∷ y.period 7
-    ∷ 0 ∷ 0 ∷ 0 ∷ 0 ∷ 0 ∷ 0 ∷ []
 
 pub words-length : (y : Saved) (s o v : ℕ) → length (thread_words y s o v) ≡ 48 + length y.state
 unfolding thread_words
@@ -125,7 +115,7 @@ unfolding thread_words
 words-state y s o v i n w lt =
     let at : 48 + i - 48 ≡ i = omega arith in
     put_set (thread_words y s o v) (48 + i) n w (omega (arith, words-length y s o v))
-    ∙ ap (λ l. get_or l w 0) (set-append_right (header y s o v) y.state 48 (48 + i) n refl (omega arith) ∙ ap (λ k. header y s o v ++ set y.state k n) at)
+    ∙ ap (λ l. get_or l w 0) (set-append_right (header_list y s o v) y.state 48 (48 + i) n refl (omega arith) ∙ ap (λ k. header_list y s o v ++ set y.state k n) at)
 
 -- the reads
 pub words-of_outputs : (y : Saved) (s o v : ℕ) → get_or (thread_words y s o v) 9 0 ≡ length y.outputs
@@ -145,7 +135,7 @@ words-of_stamp y s o v = refl
 
 pub words-of_state : (y : Saved) (s o v i : ℕ) → get_or (thread_words y s o v) (48 + i) 0 ≡ get_or y.state i 0
 unfolding thread_words
-words-of_state y s o v i = get_or-append-add (header y s o v) y.state i 0
+words-of_state y s o v i = get_or-append-add (header_list y s o v) y.state i 0
 
 pub words-of_written : (y : Saved) (s o v q : ℕ) → q < 8 → get_or (thread_words y s o v) (10 + q) 0 ≡ y.written q
 unfolding thread_words
