@@ -49,3 +49,4 @@ pub mod ReadCounts
 pub mod ImagesStand
 pub mod ToldQueues
 pub mod StatesImage
+pub mod Devices

@@ -23,3 +23,4 @@ pub mod Images
 pub mod Reached
 pub mod Cost
 pub mod Bounds
+pub mod Devices

@@ -1,5 +1,6 @@
 //! What every legal journal keeps, from any state at which a run can begin.
 
+ghost use Rattle.never_cut.specs.Devices.{EveryDeviceTold};
 ghost use Rattle.never_cut.specs.Reached.{EveryEntryKeeps, EveryJournalTells, EveryOtherFollows, EveryPositionFits, EveryStateHasRoom, EveryStateSound};
 
 /// What is known of the states that a legal journal reaches, for every accepted program. They are sound, and so is what one legal entry
@@ -13,4 +14,11 @@ pub fn journals_keep()
     ensures room { EveryStateHasRoom }
     ensures tells { EveryJournalTells }
     ensures others { EveryOtherFollows }
+{}
+
+/// On words that stand for a state, what event_pipe and persist_timer tell of counts and words is what the never-cut kernel tells of the
+/// state: whether a pipe has an item and room, where its items stand, whether a timer is due, what its service leaves and what setting it
+/// makes, and whether a chain has expired.
+pub fn devices_stand()
+    ensures { EveryDeviceTold }
 {}

@@ -27,7 +27,7 @@ mod timer_model;
 pub use entered::Entered;
 pub use images::images_stand;
 pub use journal::{replay, replay_from};
-pub use laws::journals_keep;
+pub use laws::{devices_stand, journals_keep};
 pub use model::Model;
 pub use pipe_model::PipeModel;
 pub use replay_fault::ReplayFault;
