@@ -59,7 +59,6 @@ module _ (s : Setup) (words : Memory) (m : Model) (rows : ℕ → Row) where
       (record {
         queue = subst (λ (z : Queue × List ThreadModel). Becomes t z.0 (sides_of m).queue (λ j. queue_of (get_or z.1 j no_thread)))
             (λ k. (is k, sym threads k)) (Becomes-queue m t x lt);
-        source = ap (λ (l : List SourceModel).
-            λ j. source_in (get_or l j no_source)) sources;
+        source = ap (λ (l : List SourceModel). λ j. source_in (get_or l j no_source)) sources;
       })
       refl
