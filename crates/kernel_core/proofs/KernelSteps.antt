@@ -1,22 +1,21 @@
 -- Each access of the kernel is a step that the sources' side is proved for.
-use Rattle.std.proofs.Common.{◌≡◌, inl, ℕ, ◌+◌, ◌%◌, ◌<◌, false, List, length, set, refl, sym, ap, ◌∙◌, subst, arith}
+use Rattle.std.proofs.Common.{◌≡◌, inl, ℕ, ◌<◌, false, List, length, get_or, set, refl, sym, ap, subst, arith}
 use Rattle.ink_base.specs.declared.ids.ThreadId.{ThreadId}
-use Rattle.ink_base.specs.declared.event.Event.{Event}
-use Rattle.ink_base.specs.declared.event.Origin.TheVariants as origins
 use Rattle.ink_base.specs.declared.entry.Entry.TheVariants as entries
-use Rattle.fram_words.specs.Places.{Commit, Slot, Ack, Memory, Access, Store, store, perform}
+use Rattle.fram_words.specs.Places.{Commit, Slot, Ack, Memory, Access, Store, store, perform, place_of}
 use Rattle.fram_words.specs.Changes.{Becomes}
 use Rattle.fram_words.proofs.Accesses.{stored}
 use Rattle.push_core.specs.declared.row.Row.{Row}
-use Rattle.push_core.specs.Queue.{Queue, event_at, event_source, event_count, with_finished, without_first}
+use Rattle.push_core.specs.Queue.{Queue, with_finished, without_first}
 use Rattle.source_laws.specs.Model.{QueueBecomes}
-use Rattle.source_laws.specs.Steps.{Step, HasFinished}
+use Rattle.source_laws.specs.Steps.{Step}
 use Rattle.source_laws.specs.Steps as steps
 use Rattle.never_cut.specs.declared.model.Model.{Model}
 use Rattle.never_cut.specs.declared.thread_model.ThreadModel.{ThreadModel}
-use Rattle.never_cut.specs.State.{thread_of, queue_of, source_in}
+use Rattle.never_cut.specs.declared.source_model.SourceModel.{SourceModel}
+use Rattle.never_cut.specs.State.{thread_of, queue_of, source_in, no_thread, no_source}
 use Rattle.never_cut.specs.Entries.{effect, released}
-use Rattle.never_cut.specs.Actors.{IsAllowedStore, IsFinishing}
+use Rattle.never_cut.specs.Actors.{IsAllowedStore}
 use Rattle.kernel_core.specs.Board.{Setup, sides}
 use Rattle.kernel_core.specs.Views.{sides_of, seen}
 use Rattle.kernel_core.proofs.Sides.{Becomes-queue}
@@ -28,26 +27,16 @@ module _ (s : Setup) (words : Memory) (m : Model) (rows : ℕ → Row) where
   To new next = Step (sides s) (seen words m rows) (seen new next rows)
 
   -- no word of a queue or a source changes, and no queue or source
-  pub still : (a : Access) (next : Model) → IsUnshared (Rattle.fram_words.specs.Places.place_of a) → sides_of next ≡ sides_of m → To (perform words a) next
+  pub still : (a : Access) (next : Model) → IsUnshared (place_of a) → sides_of next ≡ sides_of m → To (perform words a) next
   still a next own same = steps.Apart (quiet words a own) same (λ i. inl refl)
 
   -- a load, after which queues and sources are as before
   pub loaded : (next : Model) → sides_of next ≡ sides_of m → To words next
   loaded next same = steps.Apart (λ p h. refl) same (λ i. inl refl)
 
-  first_event : (t i count : ℕ) (h : IsFinishing m t i count) → event_at (thread_of m t).held 0 ≡ record { origin = origins.Source (record { 0 = i }) count; value = h.value }
-  first_event t i count h = ap (λ (l : List Event). event_at l 0) h.first.1
-
-  has_finished : (t i count : ℕ) → IsFinishing m t i count → HasFinished t (sides_of m)
-  has_finished t i count h = record { finished = h.finished; some = subst (λ (l : List Event). 0 < length l) (sym h.first.1) (omega arith) }
-
   pub ack_step : (i v : ℕ) → IsAllowedStore s.program words m (Ack i) v → To (store words (Ack i) v) m
   ack_step i v (t, known, count, finishing, is) =
-      let here = first_event t i count finishing in
-      steps.Acknowledge t (has_finished t i count finishing)
-      (subst (λ (z : ℕ × ℕ). Becomes (Ack z.0) z.1 words (store words (Ack i) v))
-      (λ k. (ap event_source (sym here) k, (is ∙ ap (λ (e : Event). (event_count e + 1) % 64) (sym here)) k)) (stored words (Ack i) v))
-      refl refl
+      steps.Acknowledge t i count finishing (subst (λ (z : ℕ). Becomes (Ack i) z words (store words (Ack i) v)) is (stored words (Ack i) v)) refl refl
 
   released_sides : (t : ThreadId) → t.0 < length m.threads →
       QueueBecomes t.0 (without_first ((sides_of m).queue t.0)) (sides_of m) (sides_of (effect s.program s.readings m (entries.Release t)))
@@ -56,10 +45,8 @@ module _ (s : Setup) (words : Memory) (m : Model) (rows : ℕ → Row) where
   pub empty_step : (t : ThreadId) (n v : ℕ) → length m.threads ≡ length s.program.threads → IsAllowedStore s.program words m (Slot t.0 n) v →
       To (store words (Slot t.0 n) v) (effect s.program s.readings m (entries.Release t))
   empty_step t n v count (known, i, number, finishing, acked, at, is) =
-      let here = first_event t.0 i number finishing in
       let lt : t.0 < length m.threads = omega arith in
-      steps.Empties t.0 (has_finished t.0 i number finishing)
-      (ap (λ (e : Event). words (Ack (event_source e))) here ∙ (acked ∙ ap (λ (e : Event). (event_count e + 1) % 64) (sym here)))
+      steps.Empties t.0 i number finishing acked
       (subst (λ (z : ℕ × ℕ). Becomes (Slot t.0 z.0) z.1 words (store words (Slot t.0 n) v)) (λ k. (at k, is k)) (stored words (Slot t.0 n) v))
       (released_sides t lt) refl
 
@@ -70,9 +57,8 @@ module _ (s : Setup) (words : Memory) (m : Model) (rows : ℕ → Row) where
       steps.Commit t (open_queue, some)
       (quiet words (Store (Commit t) w) (λ h. h))
       (record {
-        queue = subst (λ (z : Queue × List ThreadModel). Becomes t z.0 (sides_of m).queue (λ j. queue_of (Rattle.std.proofs.Common.get_or z.1 j Rattle.never_cut.specs.State.no_thread)))
+        queue = subst (λ (z : Queue × List ThreadModel). Becomes t z.0 (sides_of m).queue (λ j. queue_of (get_or z.1 j no_thread)))
             (λ k. (is k, sym threads k)) (Becomes-queue m t x lt);
-        source = ap (λ (l : List Rattle.never_cut.specs.declared.source_model.SourceModel.SourceModel).
-            λ j. source_in (Rattle.std.proofs.Common.get_or l j Rattle.never_cut.specs.State.no_source)) sources;
+        source = ap (λ (l : List SourceModel). λ j. source_in (get_or l j no_source)) sources;
       })
       refl

@@ -1,12 +1,12 @@
 -- What the kernel may do to the words that others read, and what the others may do to what the kernel knows.
-use Rattle.std.specs.Prelude.{◌≡◌, ℕ, ◌+◌, ◌%◌, ◌<◌, ◌≤◌, ◌^◌, true, List, [], ◌∷◌, ◌++◌, length}
+use Rattle.std.specs.Prelude.{◌≡◌, ℕ, ◌+◌, ◌%◌, ◌<◌, ◌≤◌, ◌^◌, List, [], ◌++◌, length}
 use Rattle.ink_base.specs.declared.event.Event.{Event}
-use Rattle.ink_base.specs.declared.event.Origin.TheVariants as origins
 use Rattle.ink_base.specs.declared.entry.Entry.{Entry}
 use Rattle.ink_base.specs.declared.entry.Entry.TheVariants.{Push, Refuse, Skip, Tick}
 use Rattle.task_isa.specs.declared.program.Program.{Program}
 use Rattle.fram_words.specs.Places.{Place, Code, Commit, Page, Log, Ring, Tail, Slot, Ack, Clock, Src, Memory, Access, Load, Store}
 use Rattle.push_core.specs.Slots.{empty_word}
+use Rattle.push_core.specs.Queue as queues
 use Rattle.push_core.specs.Queue.{published, StandsQueue}
 use Rattle.prog_check.specs.Lookup.{thread_def}
 use Rattle.never_cut.specs.declared.model.Model.{Model}
@@ -64,13 +64,11 @@ pub record StandsForKernel (words : Memory) (program : Program) (m : Model) : Ty
 
 -- the event is the first of the thread's queue
 abbrev pub IsFirstHeld : Model → ℕ → Event → Type 0
-IsFirstHeld m t e = (rest : List Event) × ((thread_of m t).held ≡ e ∷ rest)
+IsFirstHeld m t e = queues.IsFirst e (queue_of (thread_of m t))
 
 -- a finished event of source i with this count is the first of the thread's queue
-pub record IsFinishing (m : Model) (t i count : ℕ) : Type 0 where
-  pub value : ℕ
-  pub first : IsFirstHeld m t (record { origin = origins.Source (record { 0 = i }) count; value = value })
-  pub finished : (thread_of m t).finished ≡ true
+abbrev pub IsFinishing : Model → (t i count : ℕ) → Type 0
+IsFinishing m t i count = queues.IsFinishing i count (queue_of (thread_of m t))
 
 -- In shared words the kernel stores an acknowledgement of the first event of a queue, once that is finished,
 -- and after it the empty slot of that event.

@@ -1,10 +1,10 @@
 -- The events of a queue: their numbers, and what their words read as.
-use Rattle.std.proofs.Common.{◌≡◌, ◌≢◌, ℕ, ◌%◌, ◌^◌, ◌<◌, ◌≤◌, Some, refl, sym, ap, ◌∙◌, arith}
+use Rattle.std.proofs.Common.{◌≡◌, ◌≢◌, ℕ, ◌%◌, ◌^◌, ◌<◌, ◌≤◌, List, [], ◌∷◌, ◌++◌, length, Some, refl, sym, ap, ◌∙◌, subst, arith}
 use Rattle.ink_base.specs.declared.event.Event.{Event}
 use Rattle.ink_base.specs.declared.event.Origin.{Origin}
 use Rattle.ink_base.specs.declared.event.Origin.TheVariants as origins
 use Rattle.push_core.specs.Slots.{full_word, empty_word, slot_in}
-use Rattle.push_core.specs.Queue.{event_source, event_count, IsNumber, IsQueued, event_word, event_slot, FitsEvent}
+use Rattle.push_core.specs.Queue.{Queue, event_at, event_source, event_count, IsNumber, IsQueued, IsFinishing, event_word, event_slot, FitsEvent, with_event}
 use Rattle.push_core.proofs.Slots.{slot_in-full, full_word-≢-empty_word}
 
 -- the numbers of an event of a queue
@@ -68,3 +68,17 @@ slot_in-event_word p e h =
 pub event_word-≢-empty_word : (p : ℕ) (e : Event) (q : ℕ) → FitsEvent p e → q < 2 ^ 21 → event_word p e ≢ empty_word q
 event_word-≢-empty_word p e q h lt same =
     full_word-≢-empty_word p (record { 0 = event_source e }) (event_count e) e.value q lt (sym (event_word-is p e h.source_fits) ∙ same)
+
+-- a queue whose first event is finished: it has one, with its source and count, also where another comes behind it
+module _ {i count : ℕ} {q : Queue} (h : IsFinishing i count q) where
+  pub finishing_some : 0 < length q.held
+  finishing_some = subst (λ (l : List Event). 0 < length l) (sym h.first.1) (omega arith)
+
+  pub finishing_source : event_source (event_at q.held 0) ≡ i
+  finishing_source = ap (λ (l : List Event). event_source (event_at l 0)) h.first.1
+
+  pub finishing_count : event_count (event_at q.held 0) ≡ count
+  finishing_count = ap (λ (l : List Event). event_count (event_at l 0)) h.first.1
+
+  pub finishing_push : (e : Event) → IsFinishing i count (with_event q e)
+  finishing_push e = record { value = h.value; first = (h.first.0 ++ e ∷ [], ap (λ (l : List Event). l ++ e ∷ []) h.first.1); finished = h.finished }

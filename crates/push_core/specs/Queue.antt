@@ -94,6 +94,16 @@ IsRefused s = s.refused ≡ true
 abbrev pub IsFinished : Queue → Type 0
 IsFinished q = q.finished ≡ true
 
+-- the event is the queue's first
+abbrev pub IsFirst : Event → Queue → Type 0
+IsFirst e q = (rest : List Event) × (q.held ≡ e ∷ rest)
+
+-- a finished event of source i with this count is the queue's first
+pub record IsFinishing (i count : ℕ) (q : Queue) : Type 0 where
+  pub value : ℕ
+  pub first : IsFirst (record { origin = origins.Source (record { 0 = i }) count; value = value }) q
+  pub finished : q.finished ≡ true
+
 -- a push puts the event behind those that are held
 abbrev pub with_event : Queue → Event → Queue
 with_event q e = record { held = q.held ++ e ∷ []; finished = q.finished; released = q.released }
@@ -164,12 +174,6 @@ Numbered i [] first last = first ≡ last
 Numbered i (e ∷ held) first last =
     MatchBool (event_source e == i) ((event_count e ≡ first % 64) × Numbered i held (first + 1) last) (Numbered i held first last)
 
--- the queue's first event is one of source i, and is finished
-pub record IsFinishing (i : ℕ) (q : Queue) : Type 0 where
-  pub finished : q.finished ≡ true
-  pub some : 0 < length q.held
-  pub own : event_source (event_at q.held 0) ≡ i
-
 -- SRC counts all that was accepted and settled, or all but the last
 abbrev pub Stored : (src : ℕ) → Source → Type 0
 Stored src s = (a : ℕ) × (k : ℕ) × (src ≡ src_word a k) × (((s.accepted ≡ a) × (s.next ≡ k)) ⊎ ((s.accepted ≡ a + 1) × (s.next ≡ k + 1)))
@@ -180,5 +184,5 @@ pub record KeepsNumbers (i src ack : ℕ) (q : Queue) (s : Source) : Type 0 wher
   -- the number of the source's events that were released
   pub gone : ℕ
   pub numbered : Numbered i q.held gone s.accepted
-  pub ack_is : (ack ≡ gone % 64) ⊎ (IsFinishing i q × (ack ≡ (gone + 1) % 64))
+  pub ack_is : (ack ≡ gone % 64) ⊎ (IsFinishing i (gone % 64) q × (ack ≡ (gone + 1) % 64))
   pub stored : Stored src s

@@ -1,11 +1,11 @@
 -- What a source knows stays true whatever the others do.
-use Rattle.std.proofs.Common.{◌≡◌, inl, inr, ℕ, zero, suc, ◌+◌, ◌%◌, ◌<◌, ◌≤◌, Bool, [], ◌∷◌, length, drop, ap, ◌∙◌, subst, arith, length-append, length-drop, one-add, get_or-drop}
+use Rattle.std.proofs.Common.{◌≡◌, inl, inr, ℕ, zero, suc, ◌+◌, ◌%◌, ◌<◌, ◌≤◌, Bool, [], ◌∷◌, length, drop, sym, ap, ◌∙◌, subst, arith, length-append, length-drop, one-add, get_or-drop}
 use Rattle.std.proofs.lemmas.List.{get_or_append_left}
 use Rattle.push_core.specs.declared.stage.Stage.{Stage}
 use Rattle.push_core.specs.declared.stage.Stage.TheVariants.{LoadSrc, LoadSlots, LoadAck, LoadTail, LoadSlot, Publish, MoveTail, HelpTail, StoreSkip, StoreAccepted}
 use Rattle.ink_base.specs.declared.event.Event.{Event}
-use Rattle.push_core.specs.Queue.{Queue, published, event_at, no_event, event_source, event_count, IsNumber, IsFinishing, KeepsNumbers, with_event, without_first, with_finished}
-use Rattle.push_core.proofs.Events.{number_source, number_count}
+use Rattle.push_core.specs.Queue.{Queue, published, event_at, no_event, IsNumber, IsFinishing, KeepsNumbers, with_event, without_first, with_finished}
+use Rattle.push_core.proofs.Events.{number_source, number_count, finishing_some, finishing_source, finishing_count}
 use Rattle.source_laws.specs.Model.{Near}
 use Rattle.source_laws.specs.Knows.{KnowsAt, Boots, IsShown}
 use Rattle.source_laws.proofs.Numbers.{numbered_range, numbered_at, numbered_release_own}
@@ -20,10 +20,6 @@ pub record Drifts (i places : ℕ) (n : Near) (tail ack : ℕ) (q : Queue) : Typ
   pub released_up : n.queue.released ≤ q.released
   pub published_up : published n.queue ≤ published q
   pub shown : (a slot : ℕ) → n.source.accepted ≡ a + 1 → IsShown i places n a slot → IsShown i places (changed n tail ack q) a slot
-
--- where the first event is the source's, ACK counts it
-abbrev pub IsAcked : ℕ → Near → Type 0
-IsAcked i n = event_source (event_at n.queue.held 0) ≡ i → n.ack ≡ (event_count (event_at n.queue.held 0) + 1) % 64
 
 module _ {i places : ℕ} {n : Near} {tail ack : ℕ} {q : Queue} (d : Drifts i places n tail ack q) where
   boots_drift : (a k slot : ℕ) (seen : Bool) → Boots i places n a k slot seen → Boots i places (changed n tail ack q) a k slot seen
@@ -70,25 +66,26 @@ module _ (i places : ℕ) (n : Near) where
   drift_finish = record { tail_up = omega arith; released_up = omega arith; published_up = omega arith; shown = λ a slot one h. h }
 
   -- the source's finished event is acknowledged
-  pub drift_ack : (ack : ℕ) → IsFinishing i n.queue → length n.queue.held ≤ 32 → ack ≡ (event_count (event_at n.queue.held 0) + 1) % 64 → KeepsNumbers i n.src n.ack n.queue n.source → Drifts i places n n.tail ack n.queue
-  drift_ack ack f room is h =
-      let c = numbered_release_own i n.queue.held h.gone n.source.accepted f.some f.own h.numbered in
+  pub drift_ack : (ack count : ℕ) → IsFinishing i count n.queue → length n.queue.held ≤ 32 → ack ≡ (count + 1) % 64 → KeepsNumbers i n.src n.ack n.queue n.source → Drifts i places n n.tail ack n.queue
+  drift_ack ack count f room is h =
+      let c = numbered_release_own i n.queue.held h.gone n.source.accepted (finishing_some f) (finishing_source f) h.numbered in
       let r = numbered_range i n.queue.held h.gone n.source.accepted h.numbered in
-      let t = numbered_at i n.queue.held h.gone n.source.accepted 0 h.numbered f.some f.own in
+      let t = numbered_at i n.queue.held h.gone n.source.accepted 0 h.numbered (finishing_some f) (finishing_source f) in
       let last : (a : ℕ) → n.source.accepted ≡ a + 1 → n.ack ≡ (a + 1) % 64 → ack ≡ (a + 1) % 64 = λ a one old.
       elim h.ack_is [
         | inl e ↦ absurd (omega (arith, e, old, one, r.0, r.1, t.1, t.2))
-        | inr p ↦ omega (arith, p.1, old, c.0, is)
+        | inr p ↦ omega (arith, p.1, old, c.0, is, finishing_count f)
       ] in
       record { tail_up = omega arith; released_up = omega arith; published_up = omega arith; shown = λ a slot one x. elim x [ inl y ↦ inl y | inr old ↦ inr (last a one old) ] }
 
-  -- the first event is released
-  ahead_release : (a slot j : ℕ) → 0 < length n.queue.held → IsAcked i n → j < length n.queue.held → IsNumber i a (event_at n.queue.held j)
-      → slot ≤ (n.queue.released + j) % places → IsShown i places (record n { queue = without_first n.queue }) a slot
-  ahead_release a slot zero some acked lt is before =
-      let e = acked (number_source i a (event_at n.queue.held 0) is) in
-      inr (omega (arith, e, number_count i a (event_at n.queue.held 0) is))
-  ahead_release a slot (suc j) some acked lt is before =
+  -- the finished event is released, which ACK counts where it is the source's
+  ahead_release : (own count a slot j : ℕ) → IsFinishing own count n.queue → (own ≡ i → n.ack ≡ (count + 1) % 64) → j < length n.queue.held →
+      IsNumber i a (event_at n.queue.held j) → slot ≤ (n.queue.released + j) % places → IsShown i places (record n { queue = without_first n.queue }) a slot
+  ahead_release own count a slot zero f acked lt is before =
+      let first : Event = event_at n.queue.held 0 in
+      let e = acked (sym (finishing_source f) ∙ number_source i a first is) in
+      inr (omega (arith, e, finishing_count f, number_count i a first is))
+  ahead_release own count a slot (suc j) f acked lt is before =
       let same : event_at (drop 1 n.queue.held) j ≡ event_at n.queue.held (suc j) = get_or-drop 1 n.queue.held j no_event ∙ ap (event_at n.queue.held) (one-add j) in
       inl (
         j,
@@ -97,10 +94,10 @@ module _ (i places : ℕ) (n : Near) where
         subst (λ (x : ℕ). slot ≤ x % places) (let e : n.queue.released + suc j ≡ n.queue.released + 1 + j = omega arith in e) before,
       )
 
-  pub drift_release : 0 < length n.queue.held → IsAcked i n → Drifts i places n n.tail n.ack (without_first n.queue)
-  drift_release some acked = record {
+  pub drift_release : (own count : ℕ) → IsFinishing own count n.queue → (own ≡ i → n.ack ≡ (count + 1) % 64) → Drifts i places n n.tail n.ack (without_first n.queue)
+  drift_release own count f acked = record {
     tail_up = omega arith;
     released_up = omega arith;
-    published_up = omega (arith, some, length-drop 1 n.queue.held);
-    shown = λ a slot one h. elim h [ inl x ↦ ahead_release a slot x.0 some acked x.1 x.2 x.3 | inr y ↦ inr y ];
+    published_up = omega (arith, finishing_some f, length-drop 1 n.queue.held);
+    shown = λ a slot one h. elim h [ inl x ↦ ahead_release own count a slot x.0 f acked x.1 x.2 x.3 | inr y ↦ inr y ];
   }

@@ -1,12 +1,12 @@
 -- The kernel's changes keep the invariant: an event is finished, acknowledged and released; and so does a cut.
-use Rattle.std.proofs.Common.{◌≡◌, ◌⊎◌, inl, inr, ℕ, suc, ◌+◌, ◌%◌, ◌<◌, ◌≤◌, true, length, drop, refl, sym, ap, ◌∙◌, subst, arith, length-drop, one-add, get_or-drop}
+use Rattle.std.proofs.Common.{◌≡◌, ◌⊎◌, inl, inr, ℕ, suc, ◌+◌, ◌%◌, ◌<◌, ◌≤◌, length, drop, refl, sym, ap, ◌∙◌, subst, arith, length-drop, one-add, get_or-drop}
 use Rattle.std.proofs.lemmas.Bool.{cases_eq}
 use Rattle.push_core.specs.Table.{first_row, greatest_tail}
 use Rattle.push_core.specs.declared.row.Row.{Row}
 use Rattle.fram_words.specs.Changes.{Becomes}
 use Rattle.push_core.specs.Slots.{empty_word}
-use Rattle.push_core.specs.Queue.{Queue, Source, published, event_at, no_event, event_source, event_count, IsQueued, unsettled_into, IsFinishing, without_first, with_finished}
-use Rattle.push_core.proofs.Events.{queued_numbers}
+use Rattle.push_core.specs.Queue.{Queue, Source, published, event_at, no_event, IsQueued, unsettled_into, IsFinishing, without_first, with_finished}
+use Rattle.push_core.proofs.Events.{queued_numbers, finishing_some, finishing_source}
 use Rattle.push_core.proofs.Queues.{queue_same, queue_finish, queue_release}
 use Rattle.push_core.proofs.Unsettled.{unsettled_least}
 use Rattle.fram_words.specs.Places.{Place, Tail, Ack, Src, IsShared}
@@ -53,17 +53,17 @@ kept_finish board x y t0 word model rows h = record {
     queue_here t same = subst (λ (u : ℕ). y.model.queue u ≡ with_finished (x.model.queue u)) (sym same) model.queue.here
 
 -- the kernel acknowledges the finished event of queue t0
-pub kept_ack : (board : Board) (x y : State) (t0 : ℕ) → IsWithin board → (x.model.queue t0).finished ≡ true → 0 < length (x.model.queue t0).held
-    → Becomes (Ack (event_source (event_at (x.model.queue t0).held 0))) ((event_count (event_at (x.model.queue t0).held 0) + 1) % 64) x.word y.word → y.model ≡ x.model → y.row ≡ x.row → Kept board x → Kept board y
-kept_ack board x y t0 w finished some word model rows h = record {
+pub kept_ack : (board : Board) (x y : State) (t0 own count : ℕ) → IsWithin board → IsFinishing own count (x.model.queue t0)
+    → Becomes (Ack own) ((count + 1) % 64) x.word y.word → y.model ≡ x.model → y.row ≡ x.row → Kept board x → Kept board y
+kept_ack board x y t0 own count w f word model rows h = record {
   queues = λ t. queue_part board x y t (λ n. word.elsewhere (places.Slot t n) (λ e. cc)) (tail t) (queue t) (h.queues t);
   events = λ t. events_part board x y t (queue t) (λ j. omega (arith, ap (λ (z : Source). z.next) (source j))) (h.events t);
-  sources = λ j. elim (cases_eq j (event_source (event_at (x.model.queue t0).held 0))) [
+  sources = λ j. elim (cases_eq j own) [
     | inl same ↦
-        source_as (own_acked (h.sources j) (y.word (Ack j)) (own j same) (omega (arith, (h.queues (board.queue_of j)).room, w.no_more (board.queue_of j))) (acked j same))
+        source_as (own_acked (h.sources j) (y.word (Ack j)) count (finishing j same) (omega (arith, (h.queues (board.queue_of j)).room, w.no_more (board.queue_of j))) (acked j same))
         (near_is board y j (tail (board.queue_of j)) (src j) refl (queue (board.queue_of j)) (source j)) (row j)
     | inr other ↦
-        source_as (h.sources j) (near_is board y j (tail (board.queue_of j)) (src j) (word.elsewhere (Ack j) (λ e. other (let same : j ≡ event_source (event_at (x.model.queue t0).held 0) = cc in same))) (queue (board.queue_of j)) (source j)) (row j)
+        source_as (h.sources j) (near_is board y j (tail (board.queue_of j)) (src j) (word.elsewhere (Ack j) (λ e. other (let same : j ≡ own = cc in same))) (queue (board.queue_of j)) (source j)) (row j)
   ];
 }
   where
@@ -82,30 +82,31 @@ kept_ack board x y t0 w finished some word model rows h = record {
     src : (j : ℕ) → y.word (Src j) ≡ x.word (Src j)
     src j = word.elsewhere (Src j) (λ f. cc)
 
-    at_queue : (j : ℕ) → j ≡ event_source (event_at (x.model.queue t0).held 0) → board.queue_of j ≡ t0
-    at_queue j same = ap board.queue_of same ∙ (queued_numbers board.shape.sources board.queue_of t0 (event_at (x.model.queue t0).held 0) ((h.events t0).events 0 some)).queue
+    at_queue : (j : ℕ) → j ≡ own → board.queue_of j ≡ t0
+    at_queue j same =
+        ap board.queue_of (same ∙ sym (finishing_source f))
+        ∙ (queued_numbers board.shape.sources board.queue_of t0 (event_at (x.model.queue t0).held 0) ((h.events t0).events 0 (finishing_some f))).queue
 
-    own : (j : ℕ) → j ≡ event_source (event_at (x.model.queue t0).held 0) → IsFinishing j (x.model.queue (board.queue_of j))
-    own j same = subst (λ (t : ℕ). IsFinishing j (x.model.queue t)) (sym (at_queue j same)) (record { finished = finished; some = some; own = sym same })
+    finishing : (j : ℕ) → j ≡ own → IsFinishing j count (x.model.queue (board.queue_of j))
+    finishing j same = subst (λ (z : ℕ × ℕ). IsFinishing z.0 count (x.model.queue z.1)) (sym (λ k. (same k, at_queue j same k))) f
 
-    acked : (j : ℕ) → j ≡ event_source (event_at (x.model.queue t0).held 0) → y.word (Ack j) ≡ (event_count (event_at (x.model.queue (board.queue_of j)).held 0) + 1) % 64
-    acked j same = ap (λ (k : ℕ). y.word (Ack k)) same ∙ word.here ∙ ap (λ (t : ℕ). (event_count (event_at (x.model.queue t).held 0) + 1) % 64) (sym (at_queue j same))
+    acked : (j : ℕ) → j ≡ own → y.word (Ack j) ≡ (count + 1) % 64
+    acked j same = ap (λ (k : ℕ). y.word (Ack k)) same ∙ word.here
 
 -- the kernel releases it, once it is acknowledged
-pub kept_release : (board : Board) (x y : State) (t0 : ℕ) → (x.model.queue t0).finished ≡ true → 0 < length (x.model.queue t0).held
-    → x.word (Ack (event_source (event_at (x.model.queue t0).held 0))) ≡ (event_count (event_at (x.model.queue t0).held 0) + 1) % 64
+pub kept_release : (board : Board) (x y : State) (t0 own count : ℕ) → IsFinishing own count (x.model.queue t0) → x.word (Ack own) ≡ (count + 1) % 64
     → Becomes (places.Slot t0 ((x.model.queue t0).released % board.places t0)) (empty_word ((x.model.queue t0).released + board.places t0)) x.word y.word
     → QueueBecomes t0 (without_first (x.model.queue t0)) x.model y.model → y.row ≡ x.row → Kept board x → Kept board y
-kept_release board x y t0 finished some acked word model rows h = record {
+kept_release board x y t0 own count f acked word model rows h = record {
   queues = λ t. elim (cases_eq t t0) [
     | inl same ↦ subst (QueueKept board y) (sym same)
-        (queue_same (queue_release (h.queues t0) some (slots_become x y word)) (λ n. refl) (tail t0) model.queue.here)
+        (queue_same (queue_release (h.queues t0) (finishing_some f) (slots_become x y word)) (λ n. refl) (tail t0) model.queue.here)
     | inr other ↦ queue_part board x y t (λ n. word.elsewhere (places.Slot t n) (λ f. other (let same : t ≡ t0 = cc in same))) (tail t) (model.queue.elsewhere t other) (h.queues t)
   ];
   events = λ t. elim (cases_eq t t0) [
     | inl same ↦ subst (EventsKept board y.model.queue y.model.source) (sym same)
         (events_as board x.model.source y.model.source y.model.queue t0 (published q) (without_first q) model.queue.here
-        (let n : q.released + 1 + length (drop 1 q.held) ≡ published q = omega (arith, length-drop 1 q.held) in n) (h.events t0).positions source
+        (let n : q.released + 1 + length (drop 1 q.held) ≡ published q = omega (arith, finishing_some f, length-drop 1 q.held) in n) (h.events t0).positions source
         (λ k lt. subst (IsQueued board.shape.sources board.queue_of t0) (sym (get_or-drop 1 q.held k no_event ∙ ap (event_at q.held) (one-add k))) ((h.events t0).events (suc k) (omega (arith, lt, length-drop 1 q.held)))))
     | inr other ↦ events_part board x y t (model.queue.elsewhere t other) (λ j. omega (arith, ap (λ (z : Source). z.next) (source j))) (h.events t)
   ];
@@ -138,8 +139,7 @@ kept_release board x y t0 finished some acked word model rows h = record {
 
     release_here : (j : ℕ) → board.queue_of j ≡ t0 → SourceKept j (places_for board j) (length (board.readings j)) (record (near board x j) { queue = without_first (x.model.queue (board.queue_of j)) }) (x.row j)
     release_here j here =
-        let can = subst (λ (p : Queue). (p.finished ≡ true) × (0 < length p.held) × (event_source (event_at p.held 0) ≡ j → x.word (Ack j) ≡ (event_count (event_at p.held 0) + 1) % 64)) (sym (ap x.model.queue here)) (finished, some, λ same. ap (λ (k : ℕ). x.word (Ack k)) (sym same) ∙ acked) in
-        any_release (h.sources j) can.0 can.1 can.2
+        any_release (h.sources j) own count (subst (IsFinishing own count) (sym (ap x.model.queue here)) f) (λ same. ap (λ (k : ℕ). x.word (Ack k)) (sym same) ∙ acked)
 
 -- a step that touches no word of a queue or a source; a cut also sends each source to its first row
 pub kept_apart : (board : Board) (x y : State) → ((p : Place) → IsShared p → y.word p ≡ x.word p) → y.model ≡ x.model → ((i : ℕ) → (y.row i ≡ x.row i) ⊎ (y.row i ≡ first_row)) → Kept board x → Kept board y

@@ -1,14 +1,15 @@
 -- The part of a source through the steps of the others.
-use Rattle.std.proofs.Common.{◌≡◌, inl, inr, ℕ, ◌+◌, ◌%◌, ◌<◌, ◌≤◌, true, length, sym, subst}
+use Rattle.std.proofs.Common.{◌≡◌, inl, inr, ℕ, ◌+◌, ◌%◌, ◌≤◌, length, sym, ◌∙◌, subst}
 use Rattle.std.proofs.lemmas.Bool.{cases_eq}
 use Rattle.push_core.specs.declared.row.Row.{Row}
 use Rattle.fram_words.specs.Places.{Tail, Ack, Src}
 use Rattle.ink_base.specs.declared.event.Event.{Event}
-use Rattle.push_core.specs.Queue.{Queue, Source, event_at, event_source, event_count, IsFinishing, KeepsNumbers, with_event, without_first, with_finished}
+use Rattle.push_core.specs.Queue.{Queue, Source, event_source, IsFinishing, KeepsNumbers, with_event, without_first, with_finished}
+use Rattle.push_core.proofs.Events.{finishing_some, finishing_source}
 use Rattle.source_laws.specs.Model.{Board, Near}
 use Rattle.source_laws.specs.Kept.{State, near, SourceKept}
 use Rattle.source_laws.proofs.Sources.{source_push_other, source_finish, source_ack, source_release_own, source_release_other}
-use Rattle.source_laws.proofs.Drifts.{changed, Drifts, knows_drift, drift_tail, drift_push, drift_finish, drift_ack, drift_release, IsAcked}
+use Rattle.source_laws.proofs.Drifts.{changed, Drifts, knows_drift, drift_tail, drift_push, drift_finish, drift_ack, drift_release}
 
 -- what is near the source after a step, by its parts
 pub near_is : (board : Board) (y : State) (j : ℕ) {tail src ack : ℕ} {q : Queue} {s : Source} → y.word (Tail (board.queue_of j)) ≡ tail → y.word (Src j) ≡ src → y.word (Ack j) ≡ ack → y.model.queue (board.queue_of j) ≡ q → y.model.source j ≡ s
@@ -33,14 +34,14 @@ module _ {i places readings : ℕ} {n : Near} {row : Row} (h : SourceKept i plac
   pub other_finish : SourceKept i places readings (record n { queue = with_finished n.queue }) row
   other_finish = drifted n.tail n.ack (with_finished n.queue) (source_finish h.stands) (drift_finish i places n)
 
-  pub own_acked : (ack : ℕ) → IsFinishing i n.queue → length n.queue.held ≤ 32 → ack ≡ (event_count (event_at n.queue.held 0) + 1) % 64 → SourceKept i places readings (record n { ack = ack }) row
-  own_acked ack f room is = drifted n.tail ack n.queue (source_ack h.stands ack f is) (drift_ack i places n ack f room is h.stands)
+  pub own_acked : (ack count : ℕ) → IsFinishing i count n.queue → length n.queue.held ≤ 32 → ack ≡ (count + 1) % 64 → SourceKept i places readings (record n { ack = ack }) row
+  own_acked ack count f room is = drifted n.tail ack n.queue (source_ack h.stands ack count f is) (drift_ack i places n ack count f room is h.stands)
 
-  pub any_release : n.queue.finished ≡ true → 0 < length n.queue.held → IsAcked i n → SourceKept i places readings (record n { queue = without_first n.queue }) row
-  any_release finished some acked = drifted n.tail n.ack (without_first n.queue) stands (drift_release i places n some acked)
+  pub any_release : (own count : ℕ) → IsFinishing own count n.queue → (own ≡ i → n.ack ≡ (count + 1) % 64) → SourceKept i places readings (record n { queue = without_first n.queue }) row
+  any_release own count f acked = drifted n.tail n.ack (without_first n.queue) stands (drift_release i places n own count f acked)
     where
       stands : KeepsNumbers i n.src n.ack (without_first n.queue) n.source
-      stands = elim (cases_eq (event_source (event_at n.queue.held 0)) i) [
-        | inl mine ↦ source_release_own h.stands (record { finished = finished; some = some; own = mine }) (acked mine)
-        | inr other ↦ source_release_other h.stands some other
+      stands = elim (cases_eq own i) [
+        | inl mine ↦ source_release_own h.stands count (subst (λ (k : ℕ). IsFinishing k count n.queue) mine f) (acked mine)
+        | inr other ↦ source_release_other h.stands (finishing_some f) (λ e. other (sym (finishing_source f) ∙ e))
       ]

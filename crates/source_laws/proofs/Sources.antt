@@ -1,19 +1,11 @@
 -- What a source's two words are after each step on it or on its queue, and what they tell.
-use Rattle.std.proofs.Common.{◌≡◌, ◌⊎◌, inl, inr, ℕ, ◌+◌, ◌/◌, ◌%◌, ◌^◌, ◌<◌, ◌≤◌, [], ◌∷◌, length, drop, refl, sym, ap, ◌∙◌, subst, arith, length-append}
+use Rattle.std.proofs.Common.{◌≡◌, ◌⊎◌, inl, inr, ℕ, ◌+◌, ◌/◌, ◌%◌, ◌^◌, ◌<◌, ◌≤◌, length, drop, refl, sym, ap, ◌∙◌, subst, arith}
 use Rattle.std.proofs.lemmas.Bool.{cases_lt}
-use Rattle.std.proofs.lemmas.List.{get_or_append_left}
 use Rattle.push_core.specs.Table.{src_word}
 use Rattle.ink_base.specs.declared.event.Event.{Event}
-use Rattle.push_core.specs.Queue.{Queue, Source, event_at, no_event, event_source, event_count, HoldsNumber, Numbered, IsFinishing, Stored, KeepsNumbers, with_event, without_first, with_finished, with_accepted}
+use Rattle.push_core.specs.Queue.{Queue, Source, event_at, event_source, event_count, HoldsNumber, Numbered, IsFinishing, Stored, KeepsNumbers, with_event, without_first, with_finished, with_accepted}
+use Rattle.push_core.proofs.Events.{finishing_some, finishing_source, finishing_count, finishing_push}
 use Rattle.source_laws.proofs.Numbers.{numbered_range, numbered_at, numbered_last, numbered_push_own, numbered_push_other, numbered_release_own, numbered_release_other}
-
--- an event behind the others leaves the first one
-finishing_push : (i : ℕ) (q : Queue) (e : Event) → IsFinishing i q → IsFinishing i (with_event q e)
-finishing_push i q e h = record {
-  finished = h.finished;
-  some = omega (arith, h.some, length-append q.held (e ∷ []));
-  own = ap event_source (get_or_append_left q.held (e ∷ []) no_event 0 h.some) ∙ h.own;
-}
 
 -- the two numbers of SRC
 pub src_parts : (a k : ℕ) → a < 2 ^ 32 → (src_word a k % 2 ^ 32 ≡ a) × (src_word a k / 2 ^ 32 ≡ k)
@@ -29,7 +21,7 @@ module _ {i src ack : ℕ} {q : Queue} {s : Source} (h : KeepsNumbers i src ack 
   source_push_own e ready own count = record {
     gone = h.gone;
     numbered = numbered_push_own i q.held h.gone s.accepted e own count h.numbered;
-    ack_is = elim h.ack_is [ inl same ↦ inl same | inr p ↦ inr (finishing_push i q e p.0, p.1) ];
+    ack_is = elim h.ack_is [ inl same ↦ inl same | inr p ↦ inr (finishing_push p.0 e, p.1) ];
     stored = (s.accepted, s.next, ready, inr (refl, refl));
   }
 
@@ -37,7 +29,7 @@ module _ {i src ack : ℕ} {q : Queue} {s : Source} (h : KeepsNumbers i src ack 
   source_push_other e other = record {
     gone = h.gone;
     numbered = numbered_push_other i q.held h.gone s.accepted e other h.numbered;
-    ack_is = elim h.ack_is [ inl same ↦ inl same | inr p ↦ inr (finishing_push i q e p.0, p.1) ];
+    ack_is = elim h.ack_is [ inl same ↦ inl same | inr p ↦ inr (finishing_push p.0 e, p.1) ];
     stored = h.stored;
   }
 
@@ -55,27 +47,32 @@ module _ {i src ack : ℕ} {q : Queue} {s : Source} (h : KeepsNumbers i src ack 
   source_finish = record {
     gone = h.gone;
     numbered = h.numbered;
-    ack_is = elim h.ack_is [ inl same ↦ inl same | inr p ↦ inr (record { finished = refl; some = p.0.some; own = p.0.own }, p.1) ];
+    ack_is = elim h.ack_is [ inl same ↦ inl same | inr p ↦ inr (record { value = p.0.value; first = p.0.first; finished = refl }, p.1) ];
     stored = h.stored;
   }
 
   -- the number of the source's first event
-  first_count : IsFinishing i q → (event_count (event_at q.held 0) ≡ h.gone % 64) × Numbered i (drop 1 q.held) (h.gone + 1) s.accepted
-  first_count f = numbered_release_own i q.held h.gone s.accepted f.some f.own h.numbered
+  first_count : (count : ℕ) → IsFinishing i count q → (count ≡ h.gone % 64) × Numbered i (drop 1 q.held) (h.gone + 1) s.accepted
+  first_count count f =
+      let first = numbered_release_own i q.held h.gone s.accepted (finishing_some f) (finishing_source f) h.numbered in
+      (sym (finishing_count f) ∙ first.0, first.1)
 
   -- the kernel acknowledges the source's finished event
-  pub source_ack : (now : ℕ) → IsFinishing i q → now ≡ (event_count (event_at q.held 0) + 1) % 64 → KeepsNumbers i src now q s
-  source_ack now f is = record { gone = h.gone; numbered = h.numbered; ack_is = inr (f, omega (arith, is, (first_count f).0)); stored = h.stored }
+  pub source_ack : (now count : ℕ) → IsFinishing i count q → now ≡ (count + 1) % 64 → KeepsNumbers i src now q s
+  source_ack now count f is =
+      let first = (first_count count f).0 in
+      record { gone = h.gone; numbered = h.numbered; ack_is = inr (subst (λ (c : ℕ). IsFinishing i c q) first f, omega (arith, is, first)); stored = h.stored }
 
   -- the kernel releases it
-  pub source_release_own : IsFinishing i q → ack ≡ (event_count (event_at q.held 0) + 1) % 64 → KeepsNumbers i src ack (without_first q) s
-  source_release_own f is = record { gone = h.gone + 1; numbered = (first_count f).1; ack_is = inl (omega (arith, is, (first_count f).0)); stored = h.stored }
+  pub source_release_own : (count : ℕ) → IsFinishing i count q → ack ≡ (count + 1) % 64 → KeepsNumbers i src ack (without_first q) s
+  source_release_own count f is =
+      let first = first_count count f in record { gone = h.gone + 1; numbered = first.1; ack_is = inl (omega (arith, is, first.0)); stored = h.stored }
 
   pub source_release_other : 0 < length q.held → (event_source (event_at q.held 0) ≡ i → ⊥) → KeepsNumbers i src ack (without_first q) s
   source_release_other some other = record {
     gone = h.gone;
     numbered = numbered_release_other i q.held h.gone s.accepted some other h.numbered;
-    ack_is = elim h.ack_is [ inl same ↦ inl same | inr p ↦ absurd (other p.0.own) ];
+    ack_is = elim h.ack_is [ inl same ↦ inl same | inr p ↦ absurd (other (finishing_source p.0)) ];
     stored = h.stored;
   }
 
@@ -93,7 +90,7 @@ module _ {i src ack : ℕ} {q : Queue} {s : Source} (h : KeepsNumbers i src ack 
       elim h.ack_is [
         | inl all ↦ omega (arith, r.0, r.1)
         | inr p ↦
-            let t = numbered_at i q.held h.gone s.accepted 0 h.numbered p.0.some p.0.own in
+            let t = numbered_at i q.held h.gone s.accepted 0 h.numbered (finishing_some p.0) (finishing_source p.0) in
             omega (arith, t.1, t.2, r.0, r.1, p.1)
       ]
 
@@ -107,7 +104,7 @@ module _ {i src ack : ℕ} {q : Queue} {s : Source} (h : KeepsNumbers i src ack 
         | inr none ↦
             elim h.ack_is [
               | inl all ↦ inr (all ∙ ap (λ x. x % 64) (let e : h.gone ≡ a + 1 = omega (arith, r.0) in e))
-              | inr p ↦ let t = numbered_at i q.held h.gone s.accepted 0 h.numbered p.0.some p.0.own in absurd (omega (arith, t.1, t.2, r.0, r.1))
+              | inr p ↦ let t = numbered_at i q.held h.gone s.accepted 0 h.numbered (finishing_some p.0) (finishing_source p.0) in absurd (omega (arith, t.1, t.2, r.0, r.1))
             ]
       ]
 

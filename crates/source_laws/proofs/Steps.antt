@@ -124,6 +124,6 @@ source_step board x y i w lt h s = step_at board x y i w lt h (x.row i).accepted
 pub kept_step : (board : Board) (x y : State) → IsWithin board → Kept board x → Step board x y → Kept board y
 kept_step board x y w h (steps.Source i lt s) = (source_step board x y i w lt h s).1
 kept_step board x y w h (steps.Commit t legal word model row) = kept_finish board x y t word model row h
-kept_step board x y w h (steps.Acknowledge t f word model row) = kept_ack board x y t w f.finished f.some word model row h
-kept_step board x y w h (steps.Empties t f acked word model row) = kept_release board x y t f.finished f.some acked word model row h
+kept_step board x y w h (steps.Acknowledge t own count f word model row) = kept_ack board x y t own count w f word model row h
+kept_step board x y w h (steps.Empties t own count f acked word model row) = kept_release board x y t own count f acked word model row h
 kept_step board x y w h (steps.Apart word model rows) = kept_apart board x y word model rows h

@@ -1,9 +1,9 @@
 -- The steps of a board, as far as its queues and sources go.
-use Rattle.std.specs.Prelude.{◌≡◌, ◌⊎◌, ℕ, suc, ◌+◌, ◌%◌, ◌<◌, true, length, Option, Some, None}
+use Rattle.std.specs.Prelude.{◌≡◌, ◌⊎◌, ℕ, suc, ◌+◌, ◌%◌, ◌<◌, length, Option, Some, None}
 use Rattle.fram_words.specs.Changes.{Becomes}
 use Rattle.fram_words.specs.Accesses.{Makes}
 use Rattle.push_core.specs.Slots.{empty_word}
-use Rattle.push_core.specs.Queue.{open_queue, open_source, event_at, event_source, event_count, KeepsNumbers}
+use Rattle.push_core.specs.Queue.{open_queue, open_source, IsFinishing, KeepsNumbers}
 use Rattle.fram_words.specs.Places.{Place, Tail, Ack, Src, IsShared}
 use Rattle.fram_words.specs.Places as places
 use Rattle.source_laws.specs.Model.{Board, Model, Entry, Finish, Release, IsLegal, Follows}
@@ -28,21 +28,19 @@ pub record SourceStep (board : Board) (i : ℕ) (x y : State) : Type 0 where
   pub row : Becomes i (take board i (x.row i) (found board x.word i (x.row i))) x.row y.row
   pub model : Adds board (entry board i (x.row i) (found board x.word i (x.row i))) x.model y.model
 
--- the first event of queue t is finished and still held
-pub record HasFinished (t : ℕ) (m : Model) : Type 0 where
-  pub finished : (m.queue t).finished ≡ true
-  pub some : 0 < length (m.queue t).held
-
 -- the steps of the others that matter to queues and sources
 pub data Step (board : Board) (x y : State) : Type 0 where
   Source : (i : ℕ) → i < board.shape.sources → SourceStep board i x y → Step board x y
   -- a commit finishes the first event of queue t; it stores a private word
-  Commit : (t : ℕ) → IsLegal board x.model (Finish t) → ((p : Place) → IsShared p → y.word p ≡ x.word p) → Follows board (Finish t) x.model y.model → y.row ≡ x.row → Step board x y
+  Commit : (t : ℕ) → IsLegal board x.model (Finish t) → ((p : Place) → IsShared p → y.word p ≡ x.word p) → Follows board (Finish t) x.model y.model →
+      y.row ≡ x.row → Step board x y
   -- the kernel stores ACK of the finished event's source
-  Acknowledge : (t : ℕ) → HasFinished t x.model → Becomes (Ack (event_source (event_at (x.model.queue t).held 0))) ((event_count (event_at (x.model.queue t).held 0) + 1) % 64) x.word y.word → y.model ≡ x.model → y.row ≡ x.row → Step board x y
+  Acknowledge : (t i count : ℕ) → IsFinishing i count (x.model.queue t) → Becomes (Ack i) ((count + 1) % 64) x.word y.word → y.model ≡ x.model →
+      y.row ≡ x.row → Step board x y
   -- and then the empty slot
-  Empties : (t : ℕ) → HasFinished t x.model → x.word (Ack (event_source (event_at (x.model.queue t).held 0))) ≡ (event_count (event_at (x.model.queue t).held 0) + 1) % 64
-      → Becomes (places.Slot t ((x.model.queue t).released % board.places t)) (empty_word ((x.model.queue t).released + board.places t)) x.word y.word → Follows board (Release t) x.model y.model → y.row ≡ x.row → Step board x y
+  Empties : (t i count : ℕ) → IsFinishing i count (x.model.queue t) → x.word (Ack i) ≡ (count + 1) % 64 →
+      Becomes (places.Slot t ((x.model.queue t).released % board.places t)) (empty_word ((x.model.queue t).released + board.places t)) x.word y.word →
+      Follows board (Release t) x.model y.model → y.row ≡ x.row → Step board x y
   -- any other access of the kernel or the clock, or a cut, after which each source begins at its first row
   Apart : ((p : Place) → IsShared p → y.word p ≡ x.word p) → y.model ≡ x.model → ((i : ℕ) → (y.row i ≡ x.row i) ⊎ (y.row i ≡ first_row)) → Step board x y
 
