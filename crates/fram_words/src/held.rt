@@ -1,10 +1,9 @@
 //! What single words hold: the word of a value, and the value of a word.
 
-ghost use Rattle.std.specs.Prelude.{◌≡◌, ℕ, ◌<◌, ◌≤◌, ◌+◌, ◌^◌, Option};
-ghost use Rattle.std.specs.Option.{ForSome};
-ghost use Rattle.ink_base.specs.declared.ids.TaskId as task_id;
-ghost use Rattle.ink_base.specs.declared.event.Origin as event_origin;
-ghost use Rattle.ink_base.specs.declared.output.Output as outputs;
+ghost use Rattle.std.specs.Prelude.{◌≡◌, ℕ, ◌<◌, ◌≤◌, ◌+◌, ◌^◌, IfSome, Option};
+ghost use Rattle.ink_base.specs.declared.ids.TaskId.{TaskId};
+ghost use Rattle.ink_base.specs.declared.event.Origin.{Origin};
+ghost use Rattle.ink_base.specs.declared.output.Output.{Output};
 ghost use Rattle.fram_words.specs.Held as held;
 ghost use Rattle.fram_words.specs.Held.{FitsOrigin, HasOriginBits, HasOutputBits};
 
@@ -26,7 +25,7 @@ pub fn next_word(running: Option<TaskId>) -> u64
 pub fn read_next(word: u64) -> Option<TaskId>
     requires { word ≤ 65536 }
     ensures task { result ≡ held.running_of word }
-    ensures back { (running : Option task_id.TaskId) → word ≡ held.next_word running → result ≡ running }
+    ensures back { (running : Option TaskId) → word ≡ held.next_word running → result ≡ running }
 {
     if word == 0 {
         None
@@ -52,7 +51,7 @@ pub fn origin_word(origin: Origin) -> u64
 #[inline(always)]
 pub fn read_origin(word: u64) -> Origin
     ensures origin { result ≡ held.origin_of word }
-    ensures back { (origin : event_origin.Origin) → HasOriginBits origin → word ≡ held.origin_word origin → result ≡ origin }
+    ensures back { (origin : Origin) → HasOriginBits origin → word ≡ held.origin_word origin → result ≡ origin }
 {
     match word >> 56 {
         1 => Origin::Source {
@@ -73,7 +72,7 @@ pub fn read_origin(word: u64) -> Origin
 /// The word of a timer: 0 for off, else the tick at which it is due, plus 1.
 #[inline(always)]
 pub fn due_word(due: Option<u64>) -> u64
-    requires { ForSome due (λ tick. tick + 1 < 2 ^ 64) }
+    requires { IfSome due (λ tick. tick + 1 < 2 ^ 64) }
     ensures { result ≡ held.due_word due }
 {
     match due {
@@ -104,7 +103,7 @@ pub fn output_word(output: Output) -> u64
 #[inline(always)]
 pub fn read_output(thread: ThreadId, word: u64) -> Output
     ensures output { result ≡ held.output_of thread word }
-    ensures back { (made : outputs.Output) → HasOutputBits made → made.thread ≡ thread → word ≡ held.output_word made → result ≡ made }
+    ensures back { (made : Output) → HasOutputBits made → made.thread ≡ thread → word ≡ held.output_word made → result ≡ made }
 {
     Output {
         stamp: word >> 32,

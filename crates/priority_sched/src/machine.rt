@@ -20,7 +20,7 @@ use fram_words::{Access, Header, Place, Step};
 use ink_base::ThreadId;
 use ink_layout::{KernelPoint, Plan, SlotAt, slot_of};
 use task_isa::Program;
-use thread_state::place_in;
+use thread_state::header_in;
 
 /// The kernel between two services: the thread at hand, the scan's time in ticks once the clock was loaded, and the row of the access
 /// table.
@@ -79,50 +79,22 @@ impl ScanMachine {
         let thread = self.thread;
         match self.at {
             ScanAt::Commit => Place::Commit { thread },
-            ScanAt::Running { commit_word } => place_in(
-                thread,
-                commit_word,
-                Header::Next.word(),
-            ),
-            ScanAt::Finished { commit_word, .. } => place_in(
-                thread,
-                commit_word,
-                Header::Finished.word(),
-            ),
-            ScanAt::Origin { chain } => place_in(thread, chain.commit_word, Header::Origin.word()),
-            ScanAt::Value { chain, .. } => place_in(
-                thread,
-                chain.commit_word,
-                Header::Value.word(),
-            ),
-            ScanAt::First { chain, .. } => place_in(
-                thread,
-                chain.commit_word,
-                Header::First.word(),
-            ),
+            ScanAt::Running { commit_word } => header_in(thread, commit_word, Header::Next),
+            ScanAt::Finished { commit_word, .. } => header_in(thread, commit_word, Header::Finished),
+            ScanAt::Origin { chain } => header_in(thread, chain.commit_word, Header::Origin),
+            ScanAt::Value { chain, .. } => header_in(thread, chain.commit_word, Header::Value),
+            ScanAt::First { chain, .. } => header_in(thread, chain.commit_word, Header::First),
             ScanAt::Slot { position, .. } => slot_of(program, thread, position),
-            ScanAt::Taken { idle, pipe } => place_in(
-                thread,
-                idle.commit_word,
-                Header::Taken(pipe.0 as u32).word(),
-            ),
+            ScanAt::Taken { idle, pipe } => header_in(thread, idle.commit_word, Header::Taken(pipe.0 as u32)),
             ScanAt::Writer { waiting } => Place::Commit {
                 thread: writer_of(program, waiting.pipe),
             },
             ScanAt::Written {
                 waiting,
                 commit_word,
-            } => place_in(
-                writer_of(program, waiting.pipe),
-                commit_word,
-                Header::Written(waiting.pipe.0 as u32).word(),
-            ),
+            } => header_in(writer_of(program, waiting.pipe), commit_word, Header::Written(waiting.pipe.0 as u32)),
             ScanAt::Item { waiting } => item_of(program, waiting.pipe, waiting.taken),
-            ScanAt::Timer { idle, timer } => place_in(
-                thread,
-                idle.commit_word,
-                Header::Due(timer.0 as u32).word(),
-            ),
+            ScanAt::Timer { idle, timer } => header_in(thread, idle.commit_word, Header::Due(timer.0 as u32)),
             ScanAt::Clock | ScanAt::Picked { .. } | ScanAt::Quiet => Place::Clock,
         }
     }

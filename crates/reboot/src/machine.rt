@@ -17,7 +17,7 @@ use ink_base::ThreadId;
 use ink_layout::{KernelPoint, Plan, SlotAt, slot_of};
 use push_core::{Slot, empty, read_slot};
 use task_isa::Program;
-use thread_state::place_in;
+use thread_state::header_in;
 
 /// The kernel at the start of a charge: the thread at hand, the greatest stamp that it has loaded, and the row of the access table.
 #[derive(Clone, Copy)]
@@ -72,9 +72,9 @@ impl BootMachine {
         let thread = self.thread;
         match self.at {
             BootAt::Commit | BootAt::Over => Step::Load(Place::Commit { thread }),
-            BootAt::Stamp { commit_word } => Step::Load(place_in(thread, commit_word, Header::Stamp.word())),
+            BootAt::Stamp { commit_word } => Step::Load(header_in(thread, commit_word, Header::Stamp)),
             BootAt::Finished { commit_word } => Step::Load(
-                place_in(thread, commit_word, Header::Finished.word()),
+                header_in(thread, commit_word, Header::Finished),
             ),
             BootAt::Slot { position } => Step::Load(slot_of(program, thread, position)),
             BootAt::Ack { source, count, .. } => Step::Store(

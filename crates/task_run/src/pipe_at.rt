@@ -14,7 +14,7 @@ use event_pipe::ring_at;
 use fram_words::{Header, Place};
 use ink_base::PipeId;
 use task_isa::Program;
-use thread_state::place_in;
+use thread_state::header_in;
 
 // The commit word of a pipe's reader.
 pub(crate) fn reader_of(program: &Program, pipe: u32) -> Place
@@ -35,11 +35,7 @@ pub(crate) fn taken_of(program: &Program, pipe: u32, commit_word: u64) -> Place
     ensures place { place_of result ≡ pages.place_in (pipe_def program.now pipe).reader.0 commit_word (header.taken pipe) }
     ensures there { IsOnBoard program.now (place_of result) }
 {
-    place_in(
-        program.pipes.as_slice()[pipe as usize].reader,
-        commit_word,
-        Header::Taken(pipe).word(),
-    )
+    header_in(program.pipes.as_slice()[pipe as usize].reader, commit_word, Header::Taken(pipe))
 }
 
 // The ring word of item number `count` of a pipe.
