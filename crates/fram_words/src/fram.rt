@@ -63,12 +63,11 @@ impl Fram {
         }
     }
 
-    /// The word at an address.
+    /// The word at an address; 0 beyond the last one.
     pub fn word(&self, addr: u32) -> u64
-        requires { addr < length self.now }
         ensures { result ≡ slice_index self.now addr }
     {
-        self.words[addr as usize]
+        self.words.get(addr as usize).copied().unwrap_or(0)
     }
 
     /// The number of words.

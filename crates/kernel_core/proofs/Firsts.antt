@@ -166,7 +166,6 @@ pub image_prefixes : ImagePrefixesStand
 image_prefixes s words charges moves b are short few n =
     let g : IsSetup s = record {
       accepted = b.accepted;
-      code = b.code;
       short = b.short;
       start = subst (λ m. CanStart s.program s.readings m) (sym b.first) (open_starts s.program s.readings b.accepted b.short.few);
     } in

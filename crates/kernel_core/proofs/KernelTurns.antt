@@ -143,7 +143,7 @@ kernel_steps s words m rows (Scan stamp machine) g b room h =
           (h.0 ∙ sym (scan_commits s m machine.thread machine.at (answer words (scan_wants s.program machine.thread.0 machine.at)))) keeps.holds;
     }
 kernel_steps s words m rows (Task r) g b room h =
-    let keeps = every_task_commits s.program s.readings words m r g.code b h.0 h.1 in
+    let keeps = every_task_commits s.program s.readings words m r b h.0 h.1 in
     let after = background_after s words m (wants s.program (Task r)) (entry_of_point (Rattle.task_run.specs.Machine.point r)) g b keeps.kept in
     record {
       kept = keeps.kept;

@@ -18,7 +18,7 @@ use Rattle.reboot.specs.Knows.{BootHolds}
 use Rattle.priority_sched.specs.Scan.{scan_result}
 use Rattle.priority_sched.specs.Knows.{ScanHolds}
 use Rattle.task_run.specs.Machine.{is_over}
-use Rattle.task_run.specs.Knows.{HasCode, Knows}
+use Rattle.task_run.specs.Knows.{Knows}
 use Rattle.kernel_core.specs.declared.kernel.Kernel.{Kernel}
 use Rattle.kernel_core.specs.declared.kernel.Kernel.TheVariants.{Boot, Scan, Task}
 use Rattle.kernel_core.specs.Record.{charge_of}
@@ -28,7 +28,6 @@ use Rattle.kernel_core.specs.Views.{seen}
 -- an accepted program, with readings within the limits, and a state at which a run of it can begin
 pub record IsSetup (s : Setup) : Type 0 where
   pub accepted : IsAccepted s.program
-  pub code : HasCode s.program
   pub short : AreShort s.readings
   pub start : CanStart s.program s.readings s.first
 

@@ -2,7 +2,6 @@
 ghost use Rattle.std.specs.Prelude.{◌≡◌, ◌+◌, ◌<◌, ◌≤◌, [], length, map, slice_index_or, vec_capacity, Some};
 ghost use Rattle.ink_layout.specs.Points.{entry_of_point};
 ghost use Rattle.ink_layout.specs.Image.{IsFirstImage};
-ghost use Rattle.task_run.specs.Knows.{HasCode};
 ghost use Rattle.push_core.specs.Table.{IsLeft, want_of};
 ghost use Rattle.source_laws.specs.Rows.{port_of};
 ghost use Rattle.never_cut.specs.Entries.{readings_of};
@@ -29,7 +28,6 @@ use job_parts::{Charge, Job};
 use push_core::{Point, Pusher, Row};
 use sqlite_items::Items;
 use std::marker::Model;
-use task_run::read_code_back;
 
 /// A job's board in its run: the words, the kernel, the sources and the clock, and what each charge leaves behind. Contracts see the
 /// job, the board, and for how many turns of the charge at hand there is room.
@@ -67,7 +65,6 @@ impl Core {
         ensures job { result.job ≡ job_of start.plan.accepted start.readings start.listed }
         ensures words { result.board.words ≡ start.fram }
         ensures board { result.board ≡ first_board (setup_of (job_of start.plan.accepted start.readings start.listed)) start.fram (length start.listed) }
-        ensures code { HasCode start.plan.accepted }
     {
         let Start {
             plan,
@@ -78,7 +75,6 @@ impl Core {
             charges,
             kept,
         } = start;
-        read_code_back(plan.program());
         Core {
             plan,
             readings,

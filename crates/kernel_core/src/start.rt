@@ -2,7 +2,6 @@
 ghost use Rattle.std.specs.Prelude.{◌≡◌, ◌<◌, ◌≤◌, [], length, vec_capacity, IfOk};
 ghost use Rattle.push_core.specs.Table.{IsPort};
 ghost use Rattle.ink_layout.specs.Image.{IsFirstImage};
-ghost use Rattle.task_run.specs.Knows.{HasCode};
 ghost use Rattle.kernel_core.specs.Board.{first_board};
 ghost use Rattle.kernel_core.specs.Holds.{BoardStands};
 ghost use Rattle.kernel_core.specs.Core.{setup_of, job_of};
@@ -28,9 +27,8 @@ pub fn prepare(alloc: Global, job: Job) -> Result<Core, NoMemory>
     ensures board { IfOk result (λ core. core.board ≡ first_board (setup_of job) core.board.words (length job.charges)) }
     ensures stands { IfOk result (λ core. BoardStands (setup_of core.job) core.board) }
 
-    // What the claims on its run rest on: the limits of the job, and that the code's words are read as its instructions.
+    // What the claims on its run rest on: the limits of the job.
     ensures limits { IfOk result (λ _. IsJob job) }
-    ensures code { IfOk result (λ _. HasCode job.program) }
 {
     let start = Start::of(alloc, job)?;
     let core = Core::begin(start);

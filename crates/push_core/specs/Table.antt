@@ -169,15 +169,15 @@ FitsStage places number k (HelpTail p) = (k < number) × (p ≤ greatest_tail)
 FitsStage places number k StoreSkip = k < number
 FitsStage places number k StoreAccepted = k < number
 
--- a row that a source of this port with so many readings can come to
+-- a row that a source of this port with so many readings can come to: an accepted event settles a reading too, so the accepted number goes no further ahead of the next reading
 pub record IsRowFor (port : Port) (number : ℕ) (row : Row) : Type 0 where
   pub place : IsPort port
-  pub accepted : row.accepted ≤ row.next
+  pub accepted : row.accepted ≤ number + row.next
   pub next : row.next ≤ number
   pub stage : FitsStage port.queue.places number row.next row.stage
 
--- the word is one that the access may find: SRC has no more accepted than settled readings, and no more of these than there are
+-- the word is one that the access may find: both numbers of SRC are at most the number of readings
 abbrev pub IsAnswer : (number : ℕ) → Stage → (word : ℕ) → Type 0
-IsAnswer number LoadSrc word = (word % 2 ^ 32 ≤ word / 2 ^ 32) × (word / 2 ^ 32 ≤ number)
+IsAnswer number LoadSrc word = (word % 2 ^ 32 ≤ number) × (word / 2 ^ 32 ≤ number)
 IsAnswer number LoadTail word = word ≤ greatest_tail
 IsAnswer number stage word = Unit {0}
