@@ -35,7 +35,8 @@ use Rattle.task_run.specs.Serving.{Serving}
 use Rattle.task_run.specs.Fits.{FitsPhase}
 use Rattle.task_run.specs.Knows.{KnowsAt}
 use Rattle.kernel_core.specs.Board.{Setup}
-use Rattle.kernel_core.specs.Holds.{IsSetup, KernelHolds}
+use Rattle.kernel_core.specs.First.{IsSetup}
+use Rattle.kernel_core.specs.kept.Holds.{KernelHolds}
 use Rattle.kernel_core.specs.Kernel.{wants}
 use Rattle.kernel_core.specs.declared.kernel.Kernel.{Kernel}
 use Rattle.kernel_core.specs.declared.kernel.Kernel.TheVariants as kernels

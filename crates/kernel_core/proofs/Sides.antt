@@ -9,6 +9,7 @@ use Rattle.fram_words.specs.Places.{Memory, Tail, Clock}
 use Rattle.fram_words.specs.Changes.{Becomes}
 use Rattle.task_isa.specs.declared.program.ThreadDef.{ThreadDef}
 use Rattle.task_isa.specs.declared.program.Program.{Program}
+use Rattle.prog_check.specs.Accepted.{IsAccepted}
 use Rattle.prog_check.specs.Lookup.{thread_def, no_thread_def, source_thread}
 use Rattle.ink_layout.specs.Shape.{queue_words}
 use Rattle.push_core.specs.declared.row.Row.{Row}
@@ -23,10 +24,11 @@ use Rattle.never_cut.specs.State.{thread_of, no_thread, no_source}
 use Rattle.never_cut.specs.Stands.{StandsQueue, event_word, event_at, slots_of}
 use Rattle.never_cut.specs.Sound.{IsSound, IsQueued}
 use Rattle.never_cut.specs.Actors.{StandsForKernel}
+use Rattle.never_cut.specs.Within.{AreShort}
 use Rattle.never_cut.proofs.SoundStates.{published_bound}
 use Rattle.kernel_core.specs.Board.{Setup, sides}
 use Rattle.kernel_core.specs.Views.{queue_event, queue_in, source_in, seen}
-use Rattle.kernel_core.specs.Holds.{IsSetup}
+use Rattle.kernel_core.specs.First.{IsSetup}
 
 -- the places of a queue are those of its thread
 pub places_at : (defs : List ThreadDef) (t : ℕ) → get_or (map queue_words defs) t 0 ≡ (get_or defs t no_thread_def).queue
@@ -38,21 +40,24 @@ pub places_same : (s : Setup) (t : ℕ) → places_of (sides s) t ≡ (thread_de
 places_same s t = places_at s.program.threads t
 
 -- a run within its limits is one within those of the sources
-pub within : (s : Setup) → IsSetup s → IsWithin (sides s)
-within s g = record {
-  sources = g.accepted.counts.sources;
-  readings = g.short.few;
-  values = g.short.values;
+pub within_limits : (s : Setup) → IsAccepted s.program → AreShort s.readings → IsWithin (sides s)
+within_limits s accepted short = record {
+  sources = accepted.counts.sources;
+  readings = short.few;
+  values = short.values;
   places = λ i lt. let t = source_thread s.program i in
-      let some = (g.accepted.threads (source_thread s.program i) (g.accepted.sources i lt)).queue_least in
+      let some = (accepted.threads (source_thread s.program i) (accepted.sources i lt)).queue_least in
       omega (arith, places_same s (source_thread s.program i), some);
   no_more = λ t. elim (cases_lt t (length s.program.threads)) [
-    | inl lt ↦ let few = (g.accepted.threads t lt).queue in omega (arith, places_same s t, few)
+    | inl lt ↦ let few = (accepted.threads t lt).queue in omega (arith, places_same s t, few)
     | inr past ↦
         let none : (thread_def s.program t).queue ≡ 0 = ap (λ (d : ThreadDef). d.queue) (get_or_past s.program.threads t no_thread_def past) in
         omega (arith, places_same s t, none)
   ];
 }
+
+pub within : (s : Setup) → IsSetup s → IsWithin (sides s)
+within s g = within_limits s g.accepted g.short
 
 -- one element of a list changes
 pub Becomes-set : {A : Type 0} (xs : List A) (i : ℕ) (x d : A) → i < length xs → Becomes i x (λ j. get_or xs j d) (λ j. get_or (set xs i x) j d)

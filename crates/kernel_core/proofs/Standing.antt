@@ -16,7 +16,9 @@ use Rattle.never_cut.specs.Stands.{StandsSource, event_at, is_event_of}
 use Rattle.never_cut.specs.Stands as stands
 use Rattle.kernel_core.specs.Board.{Setup, Board, sides, row_of}
 use Rattle.kernel_core.specs.Views.{queue_event, seen}
-use Rattle.kernel_core.specs.Holds.{IsSetup, memory, state, Holds, BoardStands}
+use Rattle.kernel_core.specs.First.{IsSetup}
+use Rattle.kernel_core.specs.Stands.{memory, state, BoardStands}
+use Rattle.kernel_core.specs.kept.Holds.{Holds}
 use Rattle.kernel_core.proofs.Sides.{within, mapped_at}
 use Rattle.kernel_core.proofs.Turns.{background_of}
 

@@ -9,7 +9,8 @@ use Rattle.never_cut.specs.State.{open_model}
 use Rattle.never_cut.specs.Within.{AreShort, Lasts}
 use Rattle.task_run.specs.Knows.{HasCode}
 use Rattle.kernel_core.specs.Board.{Setup, Move, Cut, Turn, moved_by, first_board}
-use Rattle.kernel_core.specs.Holds.{IsSetup, StandsFirst, BoardStands}
+use Rattle.kernel_core.specs.First.{IsSetup, StandsFirst}
+use Rattle.kernel_core.specs.Stands.{BoardStands}
 
 -- an actor of the board
 abbrev pub IsActor : Setup → Actor → Type 0
