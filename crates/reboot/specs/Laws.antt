@@ -8,7 +8,7 @@ use Rattle.never_cut.specs.Actors.{SamePrivate, Follows}
 use Rattle.never_cut.specs.Steps.{Background}
 use Rattle.reboot.specs.declared.machine.BootMachine.{BootMachine}
 use Rattle.reboot.specs.Boot.{boot_begun, boot_stamp, boot_wants, IsBoot, IsBootWord}
-use Rattle.reboot.specs.Knows.{BootHolds, BootStep}
+use Rattle.reboot.specs.Knows.{last_stamp, greatest, shown, BootHolds, BootStep}
 
 -- whatever the registers held before: those in which a boot begins know all that they must
 abbrev pub BootBegins : Type 0
@@ -30,6 +30,12 @@ abbrev pub BootDrifts : Type 0
 BootDrifts =
     (program : Program) (words new : Memory) (m next : Model) (boot : BootMachine) →
     SamePrivate words new → Follows m next → BootHolds program words m boot → BootHolds program new next boot
+
+-- the stamp is the greatest h0 of the threads that were passed, with the one at hand once that is loaded
+abbrev pub BootShowsStamp : Type 0
+BootShowsStamp =
+    (program : Program) (words : Memory) (m : Model) (boot : BootMachine) →
+    BootHolds program words m boot → boot.stamp ≡ greatest (last_stamp words) (shown boot.thread.0 boot.at)
 
 -- at the end no finished event is left, and the stamp is the number of commits
 abbrev pub BootEnds : Type 0

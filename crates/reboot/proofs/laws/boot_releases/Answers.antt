@@ -14,5 +14,8 @@ returns-clause-keeps c = λ program readings words m boot b h. (boot_in_range pr
 pub returns-clause-drifts : goal.returns-clause-drifts
 returns-clause-drifts c = boot_drifts
 
+pub returns-clause-stamp : goal.returns-clause-stamp
+returns-clause-stamp c = λ program words m boot h. h.greatest_is
+
 pub returns-clause-ends : goal.returns-clause-ends
 returns-clause-ends c = boot_ends
