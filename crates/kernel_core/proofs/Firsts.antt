@@ -26,14 +26,15 @@ use Rattle.never_cut.specs.Start.{CanStart}
 use Rattle.never_cut.specs.Within.{AreShort}
 use Rattle.never_cut.proofs.Lasting.{lasts_less, open_lasts}
 use Rattle.never_cut.proofs.Starts.{open_starts}
+use Rattle.never_cut.proofs.Finished.{one_after}
 use Rattle.reboot.proofs.Boots.{boot_begins}
 use Rattle.kernel_core.specs.Record.{ChargeRecord, not_begun, charge_of}
-use Rattle.kernel_core.specs.Board.{Setup, Board, shape, sides, row_of, moved_by, first_board}
+use Rattle.kernel_core.specs.Board.{Setup, Board, shape, sides, row_of, journal, moved_by, first_board}
 use Rattle.kernel_core.specs.Views.{queue_in, source_in, seen}
 use Rattle.kernel_core.specs.First.{IsSetup, StandsFirst}
 use Rattle.kernel_core.specs.Stands.{memory}
 use Rattle.kernel_core.specs.kept.Holds.{HasSize, Holds}
-use Rattle.kernel_core.specs.Moves.{ticks, turns, IsInRange, EveryPrefixStands, ImagePrefixesStand}
+use Rattle.kernel_core.specs.Moves.{ticks, turns, IsInRange, EveryPrefixStands, ImagePrefixesStand, OneIsFinished}
 use Rattle.kernel_core.proofs.Sides.{places_same, within_limits, shared_of}
 use Rattle.kernel_core.proofs.Cuts.{first_rows}
 use Rattle.kernel_core.proofs.Runs.{moves_hold, moves_taken, ticks_taken, turns_taken}
@@ -177,3 +178,9 @@ image_prefixes s words charges moves b are short few n =
     let range : IsInRange s.first (ticks moves) (turns moves) = subst (λ m. IsInRange m (ticks moves) (turns moves)) (sym b.first)
     (record { clock = omega arith; counts = open_lasts s.program (turns moves) (omega arith) }) in
     every_prefix s words charges moves g (first_stands s words b.accepted b.short b.first b.image) are range n
+
+-- no journal makes a second finished event
+pub one_is_finished : OneIsFinished
+one_is_finished s words charges moves g stands are range one n =
+    let legal = (every_prefix s words charges moves g stands are range n).legal in
+    one_after s.program s.readings s.first (journal (moved_by s (first_board s words charges) (take n moves))) g.accepted g.short g.start.sound legal one

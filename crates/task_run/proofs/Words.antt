@@ -9,7 +9,7 @@ use Rattle.never_cut.specs.Stands.{Saved, thread_words, next_word}
 use Rattle.task_run.specs.declared.ending.Ending.{Ending}
 use Rattle.task_run.specs.declared.ending.Ending.TheVariants as endings
 use Rattle.task_run.specs.Endings.{total_word}
-use Rattle.task_run.specs.Serving.{changed, with_due, rested, finish, total_of, with_total}
+use Rattle.task_run.specs.kept.Serving.{changed, with_due, rested, finish, total_of, with_total}
 
 -- what holds of each number below 8 holds of a number below 8
 pub below_eight : (P : ℕ → Type 0) → P 0 → P 1 → P 2 → P 3 → P 4 → P 5 → P 6 → P 7 → (q : ℕ) → q < 8 → P q
