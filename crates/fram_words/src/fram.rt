@@ -34,6 +34,13 @@ impl Fram {
         Ok(Fram { words: all })
     }
 
+    /// Every word becomes 0. It takes no memory.
+    pub fn clear(&mut self)
+        ensures { self.new ≡ zeros (length self.old) }
+    {
+        self.words.fill(0);
+    }
+
     /// Makes the access, and answers the word that stood there.
     pub fn perform(&mut self, access: Access) -> u64
         requires within { address_of access < length self.old }

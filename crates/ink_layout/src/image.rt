@@ -24,12 +24,22 @@ pub fn first_image(alloc: Global, program: &Accepted, layout: &Layout) -> Result
     requires { IsLayout program.now layout.now }
     ensures { IfOk result (λ fram. IsFirstImage program.now fram) }
 {
-    let program = program.program();
     let mut fram = Fram::new(alloc, layout.words)?;
-    store_code(&mut fram, program, layout);
-    empty_queues(&mut fram, program, layout);
-    start_timers(&mut fram, program, layout);
+    write_first_image(&mut fram, program, layout);
     Ok(fram)
+}
+
+/// Writes those words over the words of the program's board. It takes no memory.
+pub fn write_first_image(fram: &mut Fram, program: &Accepted, layout: &Layout)
+    requires layout { IsLayout program.now layout.now }
+    requires count { length fram.old ≡ words_of (shape_of program.now) }
+    ensures { IsFirstImage program.now fram.new }
+{
+    let program = program.program();
+    fram.clear();
+    store_code(fram, program, layout);
+    empty_queues(fram, program, layout);
+    start_timers(fram, program, layout);
 }
 
 fn store_code(fram: &mut Fram, program: &Program, layout: &Layout)

@@ -41,7 +41,8 @@ use Rattle.kernel_core.specs.declared.kernel.Kernel.TheVariants.{Boot, Scan, Tas
 use Rattle.kernel_core.specs.Kernel.{wants, takes, point_found, booted, after_boot, after_scan, after_task, begin_scan}
 use Rattle.kernel_core.specs.Kernel as kernels
 use Rattle.kernel_core.specs.Board.{Setup}
-use Rattle.kernel_core.specs.Holds.{IsSetup, KernelHolds}
+use Rattle.kernel_core.specs.First.{IsSetup}
+use Rattle.kernel_core.specs.kept.Holds.{KernelHolds}
 use Rattle.kernel_core.proofs.KernelSteps.{To}
 use Rattle.kernel_core.proofs.KernelMoves.{boot_move, scan_move, task_move}
 

@@ -32,7 +32,7 @@ use Rattle.kernel_core.specs.declared.kernel.Kernel.{Kernel}
 use Rattle.kernel_core.specs.declared.kernel.Kernel.TheVariants.{Boot, Scan, Task}
 use Rattle.kernel_core.specs.Board.{Setup, sides, entry_of_source}
 use Rattle.kernel_core.specs.Views.{sides_of}
-use Rattle.kernel_core.specs.Holds.{KernelHolds}
+use Rattle.kernel_core.specs.kept.Holds.{KernelHolds}
 use Rattle.kernel_core.proofs.Sides.{Becomes-queue, Becomes-source}
 use Rattle.kernel_core.proofs.Quiet.{perform_other}
 

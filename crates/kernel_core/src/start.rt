@@ -3,10 +3,11 @@ ghost use Rattle.std.specs.Prelude.{◌≡◌, ◌<◌, ◌≤◌, [], length, v
 ghost use Rattle.push_core.specs.Table.{IsPort};
 ghost use Rattle.ink_layout.specs.Image.{IsFirstImage};
 ghost use Rattle.kernel_core.specs.Board.{first_board};
-ghost use Rattle.kernel_core.specs.Holds.{BoardStands};
+ghost use Rattle.kernel_core.specs.First.{StandsFirst};
+ghost use Rattle.kernel_core.specs.Stands.{BoardStands};
 ghost use Rattle.kernel_core.specs.Core.{setup_of, job_of};
 ghost use Rattle.job_parts.specs.Job.{IsJob};
-ghost use Rattle.kernel_core.specs.Starts.{port_in, IsFirstRecord, AreFirstPushers, AreFirstRecords};
+ghost use Rattle.kernel_core.specs.kept.Starts.{port_in, IsFirstRecord, AreFirstPushers, AreFirstRecords};
 
 use crate::board::{Core, turns_in};
 use crate::charge_record::ChargeRecord;
@@ -53,6 +54,7 @@ impl Start {
         ensures job { IfOk result (λ start. job_of start.plan.accepted start.readings start.listed ≡ job) }
         ensures limits { IfOk result (λ start. IsJob (job_of start.plan.accepted start.readings start.listed)) }
         ensures image { IfOk result (λ start. IsFirstImage start.plan.accepted start.fram) }
+        ensures first { IfOk result (λ start. StandsFirst (setup_of (job_of start.plan.accepted start.readings start.listed)) start.fram) }
         ensures pushers { IfOk result (λ start. AreFirstPushers start.plan.accepted (length start.plan.accepted.sources) start.pushers.items) }
         ensures charges { IfOk result (λ start. AreFirstRecords (job_of start.plan.accepted start.readings start.listed) (length start.listed) start.charges.items) }
         ensures empty { IfOk result (λ start. start.kept.items ≡ []) }

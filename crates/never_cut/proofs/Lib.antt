@@ -22,6 +22,7 @@ pub mod Ready
 pub mod SoundCommits
 pub mod PickedEnds
 pub mod SoundStates
+pub mod Finished
 pub mod Lasting
 pub mod Starts
 pub mod Firsts

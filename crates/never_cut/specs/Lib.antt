@@ -12,6 +12,7 @@ pub mod Picked
 pub mod Within
 pub mod Replaying
 pub mod Replay
+pub mod Finished
 pub mod Laws
 pub mod Start
 pub mod Ranges

@@ -7,7 +7,7 @@ use ink_base::ThreadId;
 use task_isa::Program;
 
 /// The thread of the greatest priority below the bound; none exactly where no thread has a priority below it.
-pub fn next_below(program: &Program, bound: u32) -> Option<ThreadId>
+pub(crate) fn next_below(program: &Program, bound: u32) -> Option<ThreadId>
     requires { length program.now.threads ≤ 256 }
     ensures computed { result ≡ order.next_below program.now bound }
     ensures highest { order.IsHighest program.now bound (length program.now.threads) result }

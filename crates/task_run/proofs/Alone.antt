@@ -28,7 +28,7 @@ use Rattle.task_run.specs.declared.machine.TaskMachine.{TaskMachine}
 use Rattle.task_run.specs.Endings.{total_word}
 use Rattle.task_run.specs.Machine.{Action, Put, Get, Make, action, want, take, after, after_action, after_act, after_fetch, after_event, after_value, after_written, after_next, after_commit, release_phase, end_phase, phase_again, first_phase, running_task, begin, proceed, stepped, trap, instr_of, cpu_of, given_by, execution_of, is_late, is_over}
 use Rattle.task_run.specs.Fits.{FitsExecution, FitsChain, FitsPhase, FitsWord}
-use Rattle.task_run.specs.Serving.{IsOfPipe, IsOfTimer}
+use Rattle.task_run.specs.kept.Serving.{IsOfPipe, IsOfTimer}
 use Rattle.task_run.specs.Reached.{task_loaded, GoesOn, IsPhaseOf, IsServiceOf}
 use Rattle.task_run.proofs.Accesses.{machine_at}
 use Rattle.task_run.proofs.Acts.{Lands, task_lands}

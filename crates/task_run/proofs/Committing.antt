@@ -33,7 +33,7 @@ use Rattle.task_run.specs.declared.ending.Ending.TheVariants as endings
 use Rattle.task_run.specs.declared.execution.Execution.{Execution}
 use Rattle.task_run.specs.declared.phase.Phase.TheVariants.{StoreCommit}
 use Rattle.task_run.specs.Machine.{after_commit, release_phase, at_phase}
-use Rattle.task_run.specs.Serving.{assignment, whole, result, served, rings_of, AreSent, Serving}
+use Rattle.task_run.specs.kept.Serving.{assignment, whole, result, served, rings_of, AreSent, Serving}
 use Rattle.task_run.specs.Knows.{Releasing, Knows}
 use Rattle.task_run.proofs.Words.{words-of_stamp}
 use Rattle.task_run.proofs.Accesses.{machine_at, picked_time}

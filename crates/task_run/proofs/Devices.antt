@@ -21,7 +21,7 @@ use Rattle.task_run.specs.declared.execution.Execution.{Execution}
 use Rattle.task_run.specs.declared.phase.Phase.TheVariants.{WriteTaken, ReadPeriod, WriteDue}
 use Rattle.task_run.specs.declared.machine.TaskMachine.{TaskMachine}
 use Rattle.task_run.specs.Machine.{after_event}
-use Rattle.task_run.specs.Serving.{changed, with_due, Serving}
+use Rattle.task_run.specs.kept.Serving.{changed, with_due, Serving}
 use Rattle.task_run.proofs.Accesses.{machine_at, Steps, Holding, put_step, holding_load, holding_put, serving_at}
 use Rattle.task_run.proofs.Words.{words-taken, words-due, words-of_period}
 use Rattle.task_run.proofs.Traps.{begun-idle}

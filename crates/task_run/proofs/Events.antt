@@ -22,7 +22,7 @@ use Rattle.task_run.specs.declared.phase.Phase.{Phase}
 use Rattle.task_run.specs.declared.phase.Phase.TheVariants.{WriteFirst, WriteOrigin, WriteValue, WriteTaken, ReadPeriod, Fetch, WriteNext}
 use Rattle.task_run.specs.declared.machine.TaskMachine.{TaskMachine}
 use Rattle.task_run.specs.Machine.{after_event, after_value, execution_of}
-use Rattle.task_run.specs.Serving.{assignment, begun, consumed, Before, Begins as Starts, Again, Beginning, IsOfPipe, IsOfTimer, told, Serving}
+use Rattle.task_run.specs.kept.Serving.{assignment, begun, consumed, Before, Begins as Starts, Again, Beginning, IsOfPipe, IsOfTimer, told, Serving}
 use Rattle.task_run.proofs.Accesses.{machine_at, Steps, Holding, put_step, holding_put, serving_at}
 use Rattle.task_run.proofs.Words.{words-first, words-origin, words-value}
 use Rattle.task_run.proofs.Traps.{begun-idle}

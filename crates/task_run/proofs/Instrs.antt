@@ -27,7 +27,7 @@ use Rattle.task_run.specs.declared.execution.Execution.{Execution}
 use Rattle.task_run.specs.declared.phase.Phase.TheVariants.{Fetch, ReadState, WriteState, ReadCount, LoadReader, WriteArmed, WriteStopped, WriteNext}
 use Rattle.task_run.specs.declared.machine.TaskMachine.{TaskMachine}
 use Rattle.task_run.specs.Machine.{trap, proceed, stepped, cpu_of, after_act, after_fetch, instr_of}
-use Rattle.task_run.specs.Serving.{Assignment, assignment, config_of, Told, told, RunningIn, Serving}
+use Rattle.task_run.specs.kept.Serving.{Assignment, assignment, config_of, Told, told, RunningIn, Serving}
 use Rattle.task_run.proofs.Accesses.{machine_at, Steps, Holding, holding_load, serving_at}
 use Rattle.task_run.proofs.Traps.{trap_serving, proceed_serving}
 use Rattle.task_run.proofs.Acts.{Lands, task_lands, IsOwnTask, own_task}

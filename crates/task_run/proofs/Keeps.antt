@@ -24,7 +24,7 @@ use Rattle.task_run.specs.declared.machine.TaskMachine.{TaskMachine}
 use Rattle.task_run.specs.Endings.{next_by, total_word}
 use Rattle.task_run.specs.Machine as machine
 use Rattle.task_run.specs.Machine.{want, is_over, device}
-use Rattle.task_run.specs.Serving.{told, IsReady, Serving}
+use Rattle.task_run.specs.kept.Serving.{told, IsReady, Serving}
 use Rattle.task_run.specs.Knows.{KnowsAt, KeepsAll, EveryTaskCommits}
 use Rattle.task_run.proofs.Accesses.{machine_at}
 use Rattle.task_run.proofs.Kept.{log_step_private, log_step_kernel, ring_step_private, ring_step_kernel}

@@ -29,7 +29,7 @@ use Rattle.task_run.specs.declared.phase.Phase.TheVariants.{WriteFirst, WriteOri
 use Rattle.task_run.specs.Endings.{total_word}
 use Rattle.task_run.specs.Machine.{want, is_over, execution_of}
 use Rattle.task_run.specs.Fits.{FitsExecution, FitsPhase, FitsWord, FitsTask}
-use Rattle.task_run.specs.Serving.{assignment, total_of, told, RunningIn, SendingTo, Serving}
+use Rattle.task_run.specs.kept.Serving.{assignment, total_of, told, RunningIn, SendingTo, Serving}
 use Rattle.task_run.specs.Knows.{Releasing, KnowsAt, EveryTaskFits}
 use Rattle.task_run.proofs.Words.{words-of_total, words-of_written, words-of_period}
 use Rattle.task_run.proofs.Accesses.{machine_at, picked_time}

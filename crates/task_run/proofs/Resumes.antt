@@ -25,7 +25,7 @@ use Rattle.task_run.specs.declared.execution.Execution.{Execution}
 use Rattle.task_run.specs.declared.phase.Phase.TheVariants.{Resume, WriteNext}
 use Rattle.task_run.specs.declared.machine.TaskMachine.{TaskMachine}
 use Rattle.task_run.specs.Machine as machine
-use Rattle.task_run.specs.Serving.{Assignment, assignment, rested, Finishing, worked_in, IsEnd, IsReady, told, RunningIn, Serving}
+use Rattle.task_run.specs.kept.Serving.{Assignment, assignment, rested, Finishing, worked_in, IsEnd, IsReady, told, RunningIn, Serving}
 use Rattle.task_run.proofs.Accesses.{machine_at, Steps, put_step, holding_load, holding_put}
 use Rattle.task_run.proofs.Instrs.{fetch_serving}
 use Rattle.task_run.proofs.Words.{words-rested}

@@ -28,7 +28,7 @@ use Rattle.task_run.specs.declared.sending.Sending.{Sending}
 use Rattle.task_run.specs.declared.phase.Phase.TheVariants.{LoadReader, LoadTaken, ReadWritten, StoreItem, WriteWritten}
 use Rattle.task_run.specs.declared.machine.TaskMachine.{TaskMachine}
 use Rattle.task_run.specs.Machine.{want, after_written, proceed, cpu_of}
-use Rattle.task_run.specs.Serving.{assignment, begun, with_effects, changed, rings_of, Told, told, Serving}
+use Rattle.task_run.specs.kept.Serving.{assignment, begun, with_effects, changed, rings_of, Told, told, Serving}
 use Rattle.task_run.proofs.Accesses.{machine_at, Steps, picked_at, put_step, holding_load, holding_put, serving_at}
 use Rattle.task_run.proofs.Traps.{proceed_serving}
 use Rattle.task_run.proofs.Words.{words-written, words-of_written, words-of_taken}

@@ -21,7 +21,7 @@ use Rattle.task_run.specs.declared.execution.Execution.{Execution}
 use Rattle.task_run.specs.declared.phase.Phase.TheVariants.{WriteArmed, WritePeriod, WriteStopped}
 use Rattle.task_run.specs.declared.machine.TaskMachine.{TaskMachine}
 use Rattle.task_run.specs.Machine.{want, proceed, cpu_of}
-use Rattle.task_run.specs.Serving.{changed, due_with, period_by, period_with, with_due, with_effects, begun, Told, told, Serving}
+use Rattle.task_run.specs.kept.Serving.{changed, due_with, period_by, period_with, with_due, with_effects, begun, Told, told, Serving}
 use Rattle.task_run.proofs.Accesses.{machine_at, Steps, put_step, holding_put, serving_at}
 use Rattle.task_run.proofs.Traps.{proceed_serving}
 use Rattle.persist_timer.specs.Due.{armed}

@@ -18,7 +18,7 @@ use Rattle.never_cut.specs.Stands.{Saved, saved}
 use Rattle.never_cut.specs.Picked.{IsPicked}
 use Rattle.task_run.specs.declared.ending.Ending.TheVariants as endings
 use Rattle.task_run.specs.Machine.{execution_of}
-use Rattle.task_run.specs.Serving.{Assignment, assignment, whole, begun, with_effects, result, config_of, IsTrap, IsEndOf, Told, RunningIn, Finishing, worked_in}
+use Rattle.task_run.specs.kept.Serving.{Assignment, assignment, whole, begun, with_effects, result, config_of, IsTrap, IsEndOf, Told, RunningIn, Finishing, worked_in}
 use Rattle.task_run.proofs.Acts.{IsOwnTask, own_task}
 use Rattle.task_run.proofs.Traps.{Keeps, begun-keeps, result-trap, worked-none, ends-trap, end-early}
 

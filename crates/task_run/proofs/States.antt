@@ -26,7 +26,7 @@ use Rattle.task_run.specs.declared.execution.Execution.{Execution}
 use Rattle.task_run.specs.declared.phase.Phase.TheVariants.{ReadState, WriteState, ReadCount, StoreLog, WriteCount}
 use Rattle.task_run.specs.declared.machine.TaskMachine.{TaskMachine}
 use Rattle.task_run.specs.Machine.{want, after, proceed, cpu_of}
-use Rattle.task_run.specs.Serving.{Assignment, assignment, begun, with_effects, Told, told, RunningIn, Serving}
+use Rattle.task_run.specs.kept.Serving.{Assignment, assignment, begun, with_effects, Told, told, RunningIn, Serving}
 use Rattle.task_run.proofs.Accesses.{machine_at, Steps, picked_at, put_step, holding_load, holding_put, serving_at}
 use Rattle.task_run.proofs.Traps.{begun-keeps, proceed_serving}
 use Rattle.task_run.proofs.Words.{words-outputs, words-state, words-of_outputs, words-of_state}

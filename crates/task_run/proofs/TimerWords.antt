@@ -14,7 +14,7 @@ use Rattle.prog_check.specs.Lookup.{timer_def}
 use Rattle.never_cut.specs.declared.timer_model.TimerModel.{TimerModel}
 use Rattle.never_cut.specs.State.{no_timer}
 use Rattle.never_cut.specs.Commit.{moved_on, next_due, set_by, with_timers}
-use Rattle.task_run.specs.Serving.{changed, due_with, period_by, period_with}
+use Rattle.task_run.specs.kept.Serving.{changed, due_with, period_by, period_with}
 use Rattle.task_run.proofs.SentItems.{changed_same, changed_other}
 
 -- the timer is one of thread t

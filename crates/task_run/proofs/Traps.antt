@@ -28,7 +28,7 @@ use Rattle.task_run.specs.declared.ending.Ending.TheVariants as endings
 use Rattle.task_run.specs.declared.phase.Phase.TheVariants.{WriteFirst, Fetch, WriteNext}
 use Rattle.task_run.specs.declared.machine.TaskMachine.{TaskMachine}
 use Rattle.task_run.specs.Machine.{trap, phase_again, proceed, stepped}
-use Rattle.task_run.specs.Serving.{Assignment, assignment, whole, rings_of, AreSent, begun, consumed, with_effects, effects_of, result, worked, config_of, IsTrap, IsEnd, IsEndOf, Told, told, Again, Serving}
+use Rattle.task_run.specs.kept.Serving.{Assignment, assignment, whole, rings_of, AreSent, begun, consumed, with_effects, effects_of, result, worked, config_of, IsTrap, IsEnd, IsEndOf, Told, told, Again, Serving}
 use Rattle.task_run.proofs.Accesses.{Holding, serving_at, unwritten}
 
 -- what is in a pipe before anything is sent stands in its ring

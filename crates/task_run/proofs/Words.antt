@@ -11,7 +11,7 @@ use Rattle.never_cut.proofs.Blocks.{below_eight, header_list}
 use Rattle.task_run.specs.declared.ending.Ending.{Ending}
 use Rattle.task_run.specs.declared.ending.Ending.TheVariants as endings
 use Rattle.task_run.specs.Endings.{total_word}
-use Rattle.task_run.specs.Serving.{changed, with_due, rested, finish, total_of, with_total}
+use Rattle.task_run.specs.kept.Serving.{changed, with_due, rested, finish, total_of, with_total}
 
 pub put_set : (xs : List ℕ) (i v w : ℕ) → i < length xs → put (λ k. get_or xs k 0) i v w ≡ get_or (set xs i v) w 0
 put_set xs i v w lt =

@@ -18,7 +18,7 @@ use Rattle.task_run.specs.declared.phase.Phase.TheVariants.{StoreCommit, StoreAc
 use Rattle.task_run.specs.declared.machine.TaskMachine.{TaskMachine}
 use Rattle.task_run.specs.Machine.{want, take, point, begin, is_over}
 use Rattle.task_run.specs.Fits.{FitsTask, FitsWord}
-use Rattle.task_run.specs.Serving.{Serving}
+use Rattle.task_run.specs.kept.Serving.{Serving}
 
 -- from the commit to the release: an event of source i with this count is finished, and no other thread has a finished one
 pub record Releasing (program : Program) (m : Model) (pick : Pick) (stamp i count : ℕ) : Type 0 where

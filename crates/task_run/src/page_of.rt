@@ -4,7 +4,7 @@ ghost use Rattle.std.specs.Prelude.{◌≡◌, ◌<◌};
 ghost use Rattle.std.specs.Option.{ForSome};
 ghost use Rattle.prog_check.specs.Accepted.{IsAccepted};
 ghost use Rattle.task_run.specs.Machine as machine;
-ghost use Rattle.task_run.specs.Copies as copies;
+ghost use Rattle.task_run.specs.kept.Copies as copies;
 ghost use Rattle.task_run.specs.Fits.{FitsTask};
 
 use crate::machine::TaskMachine;

@@ -1,7 +1,7 @@
 use Rattle.std.proofs.Common.{◌≡◌, ◌+◌, ◌<◌, ◌≤◌, sym, ap, ◌∙◌, subst}
 use Rattle.ink_layout.specs.Points.{entry_of_point}
 use Rattle.kernel_core.specs.Record.{with_kernel}
-use Rattle.kernel_core.specs.Recorded.{Recorded}
+use Rattle.kernel_core.specs.kept.Recorded.{Recorded, KeepsRoom}
 use Rattle.kernel_core.specs.Board.{kernel_turn}
 use Rattle.kernel_core.specs.Made.{kernel_made}
 use Rattle.kernel_core.specs.Core.{View, setup_of}
@@ -47,8 +47,8 @@ invariant_of-self c = (
       (c.entry_of_point-entry.ensures ∙ ap (λ z. entry_of_point z) c.take-point.ensures.point)
       (c.note_kernel.ensures.charge ∙ ap (λ (z : Recorded). with_kernel c.entry_of_point-entry.result z.charge)
       (at_hand _ _ _ _ _ _ c.self.invariant.1 (subst (λ (z : View). 0 < z.board.begun) (sym c.self.view_is) c.requires.begun) c.index_mut.result.now c.index_mut.ensures.value))
-      (subst (λ (z : Recorded). z.spare ≤ c.note_kernel.new.self.spare + 1)
-      (at_hand _ _ _ _ _ _ c.self.invariant.1 (subst (λ (z : View). 0 < z.board.begun) (sym c.self.view_is) c.requires.begun) c.index_mut.result.now c.index_mut.ensures.value) c.note_kernel.ensures.spare),
+      (subst (λ (z : Recorded). KeepsRoom z c.note_kernel.new.self)
+      (at_hand _ _ _ _ _ _ c.self.invariant.1 (subst (λ (z : View). 0 < z.board.begun) (sym c.self.view_is) c.requires.begun) c.index_mut.result.now c.index_mut.ensures.value) c.note_kernel.ensures.room),
 )
 
 pub returns-clause-board : goal.returns-clause-board

@@ -7,9 +7,10 @@ use Rattle.push_core.specs.declared.pusher.Pusher.{Pusher}
 use Rattle.job_parts.specs.Job.{JobParts}
 use Rattle.source_laws.specs.Rows.{port_of}
 use Rattle.kernel_core.specs.Record.{not_begun}
-use Rattle.kernel_core.specs.Recorded.{Recorded}
+use Rattle.kernel_core.specs.kept.Recorded.{Recorded}
 use Rattle.kernel_core.specs.Board.{sides}
-use Rattle.kernel_core.specs.Core.{setup_of, job_of, turns_in, no_pusher, none_recorded}
+use Rattle.kernel_core.specs.Core.{setup_of, job_of, turns_in}
+use Rattle.kernel_core.specs.kept.Cores.{no_pusher, none_recorded}
 
 -- where the words of source i of a program stand, whatever its readings
 abbrev pub port_in : Program → ℕ → Port
@@ -28,6 +29,7 @@ pub record AreFirstPushers (program : Program) (count : ℕ) (pushers : List Pus
 pub record IsFirstRecord (job : JobParts) (k : ℕ) (r : Recorded) : Type 0 where
   pub charge : r.charge ≡ not_begun (length job.program.sources)
   pub room : turns_in job k < r.spare
+  pub whole : turns_in job k < r.capacity
 
 -- the records of the first so many charges
 pub record AreFirstRecords (job : JobParts) (count : ℕ) (records : List Recorded) : Type 0 where
