@@ -250,9 +250,10 @@ impl Core {
     {
         let access = self.kernel.want(&self.plan);
         let word = self.fram.perform(access);
-        let point = self.kernel.take(&self.plan, word);
+        let point = self.kernel.point(word);
         let entry = entry_of_point(point);
         self.charges[self.begun - 1].note_kernel(entry);
+        self.kernel.take(&self.plan, word);
         self.room -= 1;
         Made {
             access: Some(access),

@@ -44,6 +44,15 @@ impl ScanMachine {
         }
     }
 
+    /// Goes back to before its first access.
+    pub fn begin_again(&mut self)
+        ensures { self.new ≡ scan_begun }
+    {
+        self.thread = ThreadId(0);
+        self.time = 0;
+        self.at = ScanAt::Clock;
+    }
+
     /// What the scan found; none exactly where it isn't over. From words in their ranges the pick is one that a task's machine can serve.
     pub fn result(&self) -> Option<Scanned>
         ensures found { result ≡ scan_result self.now.at }
@@ -133,8 +142,9 @@ impl ScanMachine {
         }
     }
 
-    /// What the access stands for, where it found this word.
-    fn point(&self, word: u64) -> KernelPoint
+    /// What the wanted access stands for, where it found this word: what `take` answers.
+    #[inline(always)]
+    pub fn point(&self, word: u64) -> KernelPoint
         ensures { result ≡ scan_point self.now.thread self.now.at word }
     {
         match self.at {

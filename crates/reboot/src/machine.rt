@@ -120,9 +120,10 @@ impl BootMachine {
         }
     }
 
-    /// What the access stands for.
-    fn point(self) -> KernelPoint
-        ensures { result ≡ boot_point self.thread self.at }
+    /// What the wanted access stands for, whatever word it finds: what `take` answers.
+    #[inline(always)]
+    pub fn point(&self) -> KernelPoint
+        ensures { result ≡ boot_point self.now.thread self.now.at }
     {
         match self.at {
             BootAt::Empty { .. } => KernelPoint::Release(self.thread),
