@@ -1,5 +1,5 @@
 -- A source's changes of a word keep the invariant: the tail moves, and an event is published.
-use Rattle.std.proofs.Common.{◌≡◌, inl, inr, ℕ, suc, ◌%◌, ◌<◌, ◌≤◌, [], ◌∷◌, ◌++◌, length, refl, sym, ap, subst, arith, length-append}
+use Rattle.std.proofs.Common.{◌≡◌, inl, inr, ℕ, suc, ◌+◌, ◌%◌, ◌<◌, ◌≤◌, [], ◌∷◌, ◌++◌, length, refl, sym, ap, subst, arith, length-append}
 use Rattle.std.proofs.lemmas.Bool.{cases_eq, cases_lt}
 use Rattle.std.proofs.lemmas.List.{get_or_append_left, get_or_push}
 use Rattle.push_core.specs.Table.{src_word}
@@ -79,7 +79,7 @@ kept_push board x y i row within w room at left ready word both rows knows h = r
   sources = λ j. elim (cases_eq j i) [
     | inl same ↦ subst (SourcePart board y) (sym same)
         (source_as {n = record (near board x i) { queue = with_event q e; source = with_accepted s }}
-        (record { stands = source_push_own (h.sources i).stands e ready refl refl; ordered = record { accepted = omega (arith, (h.sources i).ordered.accepted); next = left }; knows = knows })
+        (record { stands = source_push_own (h.sources i).stands e ready refl refl; ordered = record { accepted = omega (arith, (h.sources i).ordered.accepted); next = let more : (x.model.source i).next + 1 ≤ length (board.readings i) = omega (arith, left) in more }; knows = knows })
         (near_is board y i (tail t0) (src i) (ack i) both.queue.here both.source.here) rows.here)
     | inr other ↦ elim (cases_eq (board.queue_of j) t0) [
       | inl here ↦ source_as (other_push (h.sources j) e (λ f. other (sym f))) (near_is board y j (tail (board.queue_of j)) (src j) (ack j) (queue_here (board.queue_of j) here) (both.source.elsewhere j other)) (rows.elsewhere j other)
