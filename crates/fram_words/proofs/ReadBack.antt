@@ -1,12 +1,10 @@
 -- What is read from the word of a value is the value.
-use Rattle.std.proofs.Common.{◌≡◌, ◌≢◌, ℕ, ◌+◌, ◌-◌, ◌*◌, ◌/◌, ◌%◌, ◌^◌, ◌<◌, Option, Some, None, arith, refl, sym, ap, ◌∙◌}
+use Rattle.std.proofs.Common.{◌≡◌, ◌≢◌, ℕ, ◌+◌, ◌-◌, ◌*◌, ◌/◌, ◌%◌, ◌^◌, ◌<◌, Option, Some, None, arith, refl, ap, ◌∙◌}
 use Rattle.std.proofs.lemmas.Bool.{ne_eqb, eq-eqb}
 use Rattle.ink_base.specs.declared.ids.TaskId.{TaskId}
-use Rattle.ink_base.specs.declared.ids.ThreadId.{ThreadId}
 use Rattle.ink_base.specs.declared.event.Origin.{Origin}
 use Rattle.ink_base.specs.declared.event.Origin.TheVariants as origins
 use Rattle.ink_base.specs.declared.output.Output.{Output}
-use Rattle.fram_words.specs.declared.held.Src.{Src}
 use Rattle.fram_words.specs.Held.{next_word, running_of, origin_word, origin_of, HasOriginBits, due_word, due_of, output_word, output_of, HasOutputBits, src_word, src_of}
 
 -- one more than a number is the word of something, and one less than the word is the number
@@ -67,21 +65,3 @@ src_of-src_word accepted next lt =
     let low : src_word accepted next % 2 ^ 32 ≡ accepted = omega arith in
     let high : src_word accepted next / 2 ^ 32 ≡ next = omega arith in
     rw (low, high) refl
-
--- the same of any result of a reading
-pub reads_next : (word : ℕ) (result : Option TaskId) → result ≡ running_of word → (running : Option TaskId) → word ≡ next_word running → result ≡ running
-reads_next word result is running e = is ∙ (ap running_of e ∙ running_of-next_word running)
-
-pub reads_origin : (word : ℕ) (result : Origin) → result ≡ origin_of word → (o : Origin) → HasOriginBits o → word ≡ origin_word o → result ≡ o
-reads_origin word result is o bits e = is ∙ (ap origin_of e ∙ origin_of-origin_word o bits)
-
-pub reads_due : (word : ℕ) (result : Option ℕ) → result ≡ due_of word → (due : Option ℕ) → word ≡ due_word due → result ≡ due
-reads_due word result is due e = is ∙ (ap due_of e ∙ due_of-due_word due)
-
-pub reads_output : (thread : ThreadId) (word : ℕ) (result : Output) → result ≡ output_of thread word → (o : Output) → HasOutputBits o → o.thread ≡ thread → word ≡ output_word o → result ≡ o
-reads_output thread word result is o bits same e =
-    is ∙ (ap (λ (t : ThreadId). output_of t word) (sym same) ∙ (ap (output_of o.thread) e ∙ output_of-output_word o bits))
-
-pub reads_src : (word : ℕ) (result : Src) → result ≡ src_of word → (accepted next : ℕ) → accepted < 2 ^ 32 → word ≡ src_word accepted next →
-    result ≡ record { accepted = accepted; next = next }
-reads_src word result is accepted next lt e = is ∙ (ap src_of e ∙ src_of-src_word accepted next lt)

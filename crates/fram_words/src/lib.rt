@@ -11,6 +11,9 @@ mod place;
 pub use access::Access;
 pub use fram::Fram;
 pub use header::Header;
-pub use held::{Src, due_word, next_word, origin_word, output_word, read_due, read_next, read_origin, read_output, read_src, src_word};
+pub use held::{
+    Src, due_word, next_word, origin_word, output_word, read_due, read_next, read_origin,
+    read_output, read_src, src_word,
+};
 pub use layout::{Layout, QueuePlace, ThreadPlace};
 pub use place::{Place, Step};

@@ -13,9 +13,9 @@ use Rattle.fram_words.specs.Shape.{Shape, ThreadShape, regions, words_before}
 abbrev pub block_words : ThreadDef → ℕ
 block_words thread = header.words + thread.state
 
--- a page has eight words; the header fills its own
+-- a page has eight words; header and state have pages of their own
 abbrev pub pages_of : ThreadDef → ℕ
-pages_of thread = 6 + (thread.state + 7) / 8
+pages_of thread = header.words / 8 + (thread.state + 7) / 8
 
 abbrev pub thread_shape : ThreadDef → ThreadShape
 thread_shape thread = record { pages = pages_of thread; log = thread.log }
