@@ -1,5 +1,5 @@
 -- The events that the words tell of a queue stand in its slots.
-use Rattle.std.proofs.Common.{◌≡◌, inl, inr, ℕ, zero, suc, ◌+◌, ◌-◌, ◌/◌, ◌%◌, ◌^◌, ◌<◌, ◌≤◌, ◌==◌, ◌&&◌, cond, Bool, true, false, List, [], ◌∷◌, length, Option, Some, None, sym, ap, ◌∙◌, subst, arith}
+use Rattle.std.proofs.Common.{◌≡◌, inl, inr, ℕ, zero, suc, ◌+◌, ◌-◌, ◌/◌, ◌%◌, ◌^◌, ◌<◌, ◌≤◌, ◌==◌, ◌&&◌, cond, Bool, true, false, List, [], ◌∷◌, length, Option, Some, None, refl, sym, ap, ◌∙◌, subst, arith}
 use Rattle.std.specs.Prelude.{nat_lt, if◌then◌else◌}
 use Rattle.std.proofs.lemmas.Bool.{cases_lt, and_parts, eqb-true, ltb-true}
 use Rattle.std.proofs.lemmas.Option.{same_Some}
@@ -37,7 +37,7 @@ value_in (Full p i c v) = v
 
 -- a word that is read as full is that word, and its numbers fit their bits
 full_read : (word p : ℕ) (i : SourceId) (c v : ℕ) → slot_in word ≡ Some (Full p i c v) → IsFullWord word p i c v
-full_read word p i c v e = by_flag (word / 2 ^ 63 == 1) (word % 2 ^ 42 == 0) Rattle.std.proofs.Common.refl e
+full_read word p i c v e = by_flag (word / 2 ^ 63 == 1) (word % 2 ^ 42 == 0) refl e
   where
     by_flag : (b d : Bool) → (word / 2 ^ 63 == 1) ≡ b → cond b (Some (full_in word)) (cond d (Some (Empty (word / 2 ^ 42))) None) ≡ Some (Full p i c v) → IsFullWord word p i c v
     by_flag true d f e =
@@ -74,10 +74,10 @@ module _ (program : Program) (words : Memory) (t : ℕ) where
   event_at_slot p e None at is = absurd (let clash : None ≡ Some e = is in cc)
   event_at_slot p e (Some (Empty q)) at is = absurd (let clash : None ≡ Some e = is in cc)
   event_at_slot p e (Some (Full q source count value)) at is =
-      full_event p e q source count value ((q == p) && (nat_lt source.0 (length program.sources) && (source_thread program source.0 == t))) at Rattle.std.proofs.Common.refl is
+      full_event p e q source count value ((q == p) && (nat_lt source.0 (length program.sources) && (source_thread program source.0 == t))) at refl is
 
   event_read : (p : ℕ) (e : Event) → event_in program t p (slot_of program words t p) ≡ Some e → IsReadAt program words t p e
-  event_read p e is = event_at_slot p e (slot_of program words t p) Rattle.std.proofs.Common.refl is
+  event_read p e is = event_at_slot p e (slot_of program words t p) refl is
 
   first_read : (p most : ℕ) →
       ((k : ℕ) → k < length (events_from program words t (p + 1) most) → IsReadAt program words t (p + 1 + k) (event_at (events_from program words t (p + 1) most) k)) →
@@ -93,7 +93,7 @@ module _ (program : Program) (words : Memory) (t : ℕ) where
   pub events_read : (most p k : ℕ) → k < length (events_from program words t p most) → IsReadAt program words t (p + k) (event_at (events_from program words t p most) k)
   events_read zero p k lt = absurd (omega arith)
   events_read (suc most) p k lt =
-      first_read p most (λ j less. events_read most (p + 1) j less) (event_in program t p (slot_of program words t p)) Rattle.std.proofs.Common.refl k lt
+      first_read p most (λ j less. events_read most (p + 1) j less) (event_in program t p (slot_of program words t p)) refl k lt
 
   first_few : (p most : ℕ) (o : Option Event) → length (events_from program words t (p + 1) most) ≤ most →
       length (elim o [ None ↦ [] | Some e ↦ e ∷ events_from program words t (p + 1) most ]) ≤ suc most

@@ -202,7 +202,7 @@ module _ (program : Program) (readings : Readings) (listed : List ℕ) (words : 
         | inr late ↦ absurd (fresh (LateClock late))
       ]
 
-  no_scan : {A : ScanModel → Type 0} → ForSome m.scan A
+  no_scan : (scan : ScanModel) → m.scan ≡ Some scan → ⊥
   no_scan scan is = absurd (let clash : None ≡ Some scan = sym read.scan ∙ is in cc)
 
   pub read_sound : IsSound program readings m
@@ -213,7 +213,7 @@ module _ (program : Program) (readings : Readings) (listed : List ℕ) (words : 
     timers = timer_sound;
     sources = source_sound;
     clock = let early = clock_early in omega arith;
-    scan = no_scan;
-    begun = no_scan;
-    calm = no_scan;
+    scan = λ scan is. absurd (no_scan scan is);
+    begun = λ scan is. absurd (no_scan scan is);
+    calm = λ scan is. absurd (no_scan scan is);
   }

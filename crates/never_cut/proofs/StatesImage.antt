@@ -1,7 +1,8 @@
 -- Words that stand for a sound state, and keep what an image promises beside, are an image.
 use Rattle.std.proofs.Common.{◌≡◌, ◌≢◌, ◌⊎◌, inl, inr, ℕ, zero, suc, ◌+◌, ◌-◌, ◌*◌, ◌/◌, ◌%◌, ◌^◌, ◌<◌, ◌≤◌, ◌==◌, Bool, true, false, List, [], ◌∷◌, length, take, get_or, Option, Some, None, refl, sym, ap, ◌∙◌, subst, arith}
 use Rattle.std.specs.Prelude.{if◌then◌else◌, slice_index}
-use Rattle.std.proofs.lemmas.Bool.{cases_lt, cases_Bool}
+use Rattle.std.specs.Option.{ForSome}
+use Rattle.std.proofs.lemmas.Bool.{cases_lt, cases_Bool, le-ltb}
 use Rattle.std.proofs.lemmas.List.{get_or_past, get_or-map}
 use Rattle.ink_base.specs.declared.ids.TaskId.{TaskId}
 use Rattle.ink_base.specs.declared.event.Event.{Event}
@@ -22,9 +23,9 @@ use Rattle.never_cut.specs.declared.model.Model.{Model}
 use Rattle.never_cut.specs.State.{thread_of, pipe_of, timer_of, source_of, queue_of, source_in}
 use Rattle.never_cut.specs.Commit.{outputs_of}
 use Rattle.never_cut.specs.Entries.{Readings}
-use Rattle.never_cut.specs.Stands.{flag, saved, writes_pipe, reads_pipe, owns_timer, Stands}
+use Rattle.never_cut.specs.Stands.{flag, saved, thread_words, writes_pipe, reads_pipe, owns_timer, Stands}
 use Rattle.never_cut.specs.Ranges.{IsOwnOrigin, IsTaskOf}
-use Rattle.never_cut.specs.Sound.{IsServed, IsChain, IsSound}
+use Rattle.never_cut.specs.Sound.{IsQueued, IsServed, IsChain, IsSound}
 use Rattle.never_cut.specs.Within.{Lasts}
 use Rattle.never_cut.specs.ReadOff.{told_finished, told_released, told_held, told_queue, told_source, is_one_more}
 use Rattle.never_cut.specs.Image.{HasChain, IsChainOrigin, IsTakenLast, IsChainValue, IsBlockWord, IsPipeCount, IsItemWord, IsPipeRight, stamp_at, IsLogWord, IsSlotWord, IsTailWord, IsServedFirst, IsQueueRight, own_events, held_for, IsCountWord, IsAckWord, IsSourceRight, IsImage, taken_of, written_of}
@@ -56,13 +57,13 @@ module _ (program : Program) (readings : Readings) (words : Memory) (m : Model) 
     -- a served event is one of the thread's own
     own_served : (o : Origin) (v : ℕ) → IsServed program m t (record { origin = o; value = v }) → IsOwnOrigin program t o
     own_served (origins.Source source count) v served =
-        let queued = subst (λ e. Rattle.never_cut.specs.Sound.IsQueued program t e) served.1 ((sound.threads t known).queued 0 served.0) in (queued.0, queued.1, queued.2)
+        let queued = subst (λ e. IsQueued program t e) served.1 ((sound.threads t known).queued 0 served.0) in (queued.0, queued.1, queued.2)
     own_served (origins.Pipe pipe item) v served = (served.0, served.1, let room = lasts.taken pipe.0 in let is = served.2 in omega arith)
     own_served (origins.Timer timer deadline) v served = (served.0, served.1, served.2)
 
     served_value : (o : Origin) (v : ℕ) → IsServed program m t (record { origin = o; value = v }) → IsChainValue o v
     served_value (origins.Source source count) v served =
-        let queued = subst (λ e. Rattle.never_cut.specs.Sound.IsQueued program t e) served.1 ((sound.threads t known).queued 0 served.0) in queued.3
+        let queued = subst (λ e. IsQueued program t e) served.1 ((sound.threads t known).queued 0 served.0) in queued.3
     served_value (origins.Pipe pipe item) v served = served.3
     served_value (origins.Timer timer deadline) v served = served.3
 
@@ -106,7 +107,7 @@ module _ (program : Program) (readings : Readings) (words : Memory) (m : Model) 
           subst (λ (z : List Event × Origin × ℕ). IsServedFirst z.0 z.1 z.2) (λ k. ((sym told k).held, sym origin_back k, sym event_is.1 k))
           (served_first runs.event.origin runs.event.value runs.served)
 
-    abbrev block : (w : ℕ) → committed words t w ≡ slice_index (Rattle.never_cut.specs.Stands.thread_words (saved program m t) (stands.private.threads t known).stamp (stands.private.threads t known).origin (stands.private.threads t known).value) w
+    abbrev block : (w : ℕ) → committed words t w ≡ slice_index (thread_words (saved program m t) (stands.private.threads t known).stamp (stands.private.threads t known).origin (stands.private.threads t known).value) w
     block = (stands.private.threads t known).block
 
     written_is : (q : ℕ) → q < 8 → committed words t (header.written q) ≡ (saved program m t).written q
@@ -145,7 +146,7 @@ module _ (program : Program) (readings : Readings) (words : Memory) (m : Model) 
           state_is w (omega arith) ∙ get_or_past (thread_of m t).state (w - header.words) 0 (omega (arith, size));
     }
       where
-        word_fits : (o : Option ℕ) → Rattle.std.specs.Option.ForSome o (λ due. due < 2 ^ 48) → due_word o < 2 ^ 48 + 1
+        word_fits : (o : Option ℕ) → ForSome o (λ due. due < 2 ^ 48) → due_word o < 2 ^ 48 + 1
         word_fits None fits = omega arith
         word_fits (Some due) fits = let lt = fits due refl in omega arith
 
@@ -165,7 +166,7 @@ module _ (program : Program) (readings : Readings) (words : Memory) (m : Model) 
 
         none_below : (j : ℕ) → length program.timers ≤ j → (n v : ℕ) → 0 < n → (if owns_timer program t j then v else 0) < n
         none_below j past n v some =
-            rw (Rattle.std.proofs.lemmas.Bool.le-ltb j (length program.timers) past) some
+            rw (le-ltb j (length program.timers) past) some
 
     log_right : (n : ℕ) → n < committed words t header.outputs → IsLogWord program words t n
     log_right n lt =
@@ -256,7 +257,7 @@ module _ (program : Program) (readings : Readings) (words : Memory) (m : Model) 
         let more = stood.one_more (more_is program words i few is) in
         let one : flag (is_one_more program words i) ≡ 1 = ap flag is in (omega (arith, more.0, one), omega (arith, more.1, one))
     numbers_told false is =
-        let as = stood.as_many (λ more. let clash : false ≡ true = sym is ∙ more_found program words i few more in absurd cc) in
+        let as = stood.as_many (λ more. absurd (let clash : false ≡ true = sym is ∙ more_found program words i few more in cc)) in
         let none : flag (is_one_more program words i) ≡ 0 = ap flag is in (omega (arith, as.0, none), omega (arith, as.1, none))
 
     source_right : IsSourceRight program words i
