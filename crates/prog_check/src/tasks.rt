@@ -8,6 +8,7 @@ ghost use Rattle.prog_check.specs.Faults.{is_task_taken, writes, sets, is_owned,
 ghost use Rattle.task_isa.specs.declared.program.Task.{Task as ATask};
 
 use crate::demand::demand;
+use crate::operands::read_back;
 use crate::parts::{instr, instr_line, pipe, task, task_line, timer};
 use crate::threads::has_thread;
 use ink_base::{Cause, JobFault};
@@ -36,13 +37,6 @@ fn is_owned(program: &Program, task: &Task, instr: &Instr) -> bool
         Instr::Next { i } => (*i as usize) < program.tasks.len(),
         _ => true,
     }
-}
-
-// An instruction is what its word is read as, since its operands fit their bits.
-fn read_back(instr: &Instr)
-    ensures { IsReadBack instr.now }
-{
-    let _instr = *instr;
 }
 
 #[tactic(auto, unfolding(crate::specs::Faults::instr_fault))]

@@ -1,5 +1,5 @@
 -- The first row has no numbers yet.
-use Rattle.std.proofs.Common.{ℕ, ◌≤◌, subst, sym, arith}
+use Rattle.std.proofs.Common.{subst, sym, arith}
 use Rattle.push_core.specs.declared.row.Row.{Row}
 use Rattle.push_core.specs.Table.{IsRowFor}
 use Rattle.push_core.proofs.pusher.Pusher.boot.Goals as goal
