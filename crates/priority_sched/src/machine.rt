@@ -89,21 +89,37 @@ impl ScanMachine {
         match self.at {
             ScanAt::Commit => Place::Commit { thread },
             ScanAt::Running { commit_word } => header_in(thread, commit_word, Header::Next),
-            ScanAt::Finished { commit_word, .. } => header_in(thread, commit_word, Header::Finished),
+            ScanAt::Finished { commit_word, .. } => header_in(
+                thread,
+                commit_word,
+                Header::Finished,
+            ),
             ScanAt::Origin { chain } => header_in(thread, chain.commit_word, Header::Origin),
             ScanAt::Value { chain, .. } => header_in(thread, chain.commit_word, Header::Value),
             ScanAt::First { chain, .. } => header_in(thread, chain.commit_word, Header::First),
             ScanAt::Slot { position, .. } => slot_of(program, thread, position),
-            ScanAt::Taken { idle, pipe } => header_in(thread, idle.commit_word, Header::Taken(pipe.0 as u32)),
+            ScanAt::Taken { idle, pipe } => header_in(
+                thread,
+                idle.commit_word,
+                Header::Taken(pipe.0 as u32),
+            ),
             ScanAt::Writer { waiting } => Place::Commit {
                 thread: writer_of(program, waiting.pipe),
             },
             ScanAt::Written {
                 waiting,
                 commit_word,
-            } => header_in(writer_of(program, waiting.pipe), commit_word, Header::Written(waiting.pipe.0 as u32)),
+            } => header_in(
+                writer_of(program, waiting.pipe),
+                commit_word,
+                Header::Written(waiting.pipe.0 as u32),
+            ),
             ScanAt::Item { waiting } => item_of(program, waiting.pipe, waiting.taken),
-            ScanAt::Timer { idle, timer } => header_in(thread, idle.commit_word, Header::Due(timer.0 as u32)),
+            ScanAt::Timer { idle, timer } => header_in(
+                thread,
+                idle.commit_word,
+                Header::Due(timer.0 as u32),
+            ),
             ScanAt::Clock | ScanAt::Picked { .. } | ScanAt::Quiet => Place::Clock,
         }
     }

@@ -8,10 +8,10 @@ ghost use Rattle.priority_sched.specs.Order as order;
 ghost use Rattle.priority_sched.specs.declared.scan_at.ScanAt.TheVariants.{Running, Finished};
 
 use crate::chain::Chain;
+use crate::event::event_at;
 use crate::idle::{Idle, Waiting};
 use crate::machine::ScanMachine;
 use crate::order::{next_below, priority_of};
-use crate::event::event_at;
 use crate::pipes::{next_pipe, next_timer};
 use crate::scan_at::ScanAt;
 use event_pipe::has_item;

@@ -72,10 +72,16 @@ impl BootMachine {
         let thread = self.thread;
         match self.at {
             BootAt::Commit | BootAt::Over => Step::Load(Place::Commit { thread }),
-            BootAt::Stamp { commit_word } => Step::Load(header_in(thread, commit_word, Header::Stamp)),
-            BootAt::Finished { commit_word } => Step::Load(
-                header_in(thread, commit_word, Header::Finished),
-            ),
+            BootAt::Stamp { commit_word } => Step::Load(header_in(
+                thread,
+                commit_word,
+                Header::Stamp,
+            )),
+            BootAt::Finished { commit_word } => Step::Load(header_in(
+                thread,
+                commit_word,
+                Header::Finished,
+            )),
             BootAt::Slot { position } => Step::Load(slot_of(program, thread, position)),
             BootAt::Ack { source, count, .. } => Step::Store(
                 Place::Ack { source },

@@ -43,10 +43,9 @@ impl TaskMachine {
             Phase::WriteState { index, .. } => Some((Header::WORDS + index) / 8),
             Phase::WriteCount { .. } => Some(Header::Outputs.page()),
             Phase::WriteWritten { sending, .. } => Some(Header::Written(sending.pipe).page()),
-            Phase::WriteArmed { timer, .. } | Phase::WriteStopped { timer } => Some(
-                Header::Due(timer).page(),
-            ),
+            Phase::WriteArmed { timer, .. } => Some(Header::Due(timer).page()),
             Phase::WritePeriod { timer, .. } => Some(Header::Period(timer).page()),
+            Phase::WriteStopped { timer } => Some(Header::Due(timer).page()),
             Phase::WriteNext => Some(Header::Next.page()),
             Phase::WriteFinished => Some(Header::Finished.page()),
             Phase::WriteStamp => Some(Header::Stamp.page()),

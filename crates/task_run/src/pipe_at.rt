@@ -35,7 +35,11 @@ pub(crate) fn taken_of(program: &Program, pipe: u32, commit_word: u64) -> Place
     ensures place { place_of result ≡ pages.place_in (pipe_def program.now pipe).reader.0 commit_word (header.taken pipe) }
     ensures there { IsOnBoard program.now (place_of result) }
 {
-    header_in(program.pipes.as_slice()[pipe as usize].reader, commit_word, Header::Taken(pipe))
+    header_in(
+        program.pipes.as_slice()[pipe as usize].reader,
+        commit_word,
+        Header::Taken(pipe),
+    )
 }
 
 // The ring word of item number `count` of a pipe.

@@ -5,6 +5,7 @@ ghost use Rattle.fram_words.specs.Places as places;
 ghost use Rattle.prog_check.specs.Accepted.{IsAccepted};
 ghost use Rattle.prog_check.specs.Lookup.{thread_def};
 ghost use Rattle.fram_words.specs.Steps.{access_of};
+ghost use Rattle.fram_words.specs.Header.{word_of, IsHeader};
 ghost use Rattle.fram_words.specs.Held as held;
 ghost use Rattle.ink_layout.specs.Shape.{IsOnBoard, block_words};
 ghost use Rattle.thread_state.specs.Pages as pages;
@@ -33,50 +34,77 @@ impl TaskMachine {
         ensures there { IsOnBoard program.now (places.place_of (access_of result)) }
     {
         match self.phase {
-            Phase::WriteFirst => self.put(program, Header::First.word(), self.pick.time),
-            Phase::WriteOrigin => self.put(program, Header::Origin.word(), origin_word(self.pick.event.origin)),
-            Phase::WriteValue => self.put(program, Header::Value.word(), self.pick.event.value as u64),
-            Phase::WriteTaken => self.put(program, Header::Taken(self.device()).word(), self.pick.taken + 1),
-            Phase::ReadPeriod => self.get(program, Header::Period(self.device()).word()),
-            Phase::WriteDue { word } => self.put(program, Header::Due(self.device()).word(), word),
+            Phase::WriteFirst => self.put_header(program, Header::First, self.pick.time),
+            Phase::WriteOrigin => self.put_header(
+                program,
+                Header::Origin,
+                origin_word(self.pick.event.origin),
+            ),
+            Phase::WriteValue => self.put_header(
+                program,
+                Header::Value,
+                self.pick.event.value as u64,
+            ),
+            Phase::WriteTaken => self.put_header(
+                program,
+                Header::Taken(self.device()),
+                self.pick.taken + 1,
+            ),
+            Phase::ReadPeriod => self.get_header(program, Header::Period(self.device())),
+            Phase::WriteDue { word } => self.put_header(program, Header::Due(self.device()), word),
             Phase::Resume => self.resume(program),
             Phase::Fetch => self.fetch(program),
             Phase::ReadState { index, .. } => self.get(program, Header::WORDS + index),
-            Phase::WriteState { index, value } => self.put(program, Header::WORDS + index, value as u64),
-            Phase::ReadCount { .. } => self.get(program, Header::Outputs.word()),
+            Phase::WriteState { index, value } => self.put(
+                program,
+                Header::WORDS + index,
+                value as u64,
+            ),
+            Phase::ReadCount { .. } => self.get_header(program, Header::Outputs),
             Phase::StoreLog { index, value } => self.output(program, index, value),
-            Phase::WriteCount { count } => self.put(program, Header::Outputs.word(), count as u64),
+            Phase::WriteCount { count } => self.put_header(program, Header::Outputs, count as u64),
             Phase::LoadReader { sending } => Step::Load(reader_of(program, sending.pipe)),
             Phase::LoadTaken {
                 sending,
                 commit_word,
             } => Step::Load(taken_of(program, sending.pipe, commit_word)),
-            Phase::ReadWritten { sending, .. } => self.get(program, Header::Written(sending.pipe).word()),
+            Phase::ReadWritten { sending, .. } => self.get_header(
+                program,
+                Header::Written(sending.pipe),
+            ),
             Phase::StoreItem { sending, written } => Step::Store(
                 item_of(program, sending.pipe, written),
                 sending.value as u64,
             ),
-            Phase::WriteWritten { sending, written } => self.put(
+            Phase::WriteWritten { sending, written } => self.put_header(
                 program,
-                Header::Written(sending.pipe).word(),
+                Header::Written(sending.pipe),
                 written + 1,
             ),
-            Phase::WriteArmed { timer, delay, .. } => self.put(
+            Phase::WriteArmed { timer, delay, .. } => self.put_header(
                 program,
-                Header::Due(timer).word(),
+                Header::Due(timer),
                 armed(self.pick.time, delay),
             ),
-            Phase::WritePeriod { timer, period } => self.put(
+            Phase::WritePeriod { timer, period } => self.put_header(
                 program,
-                Header::Period(timer).word(),
+                Header::Period(timer),
                 period as u64,
             ),
-            Phase::WriteStopped { timer } => self.put(program, Header::Due(timer).word(), due_word(None)),
-            Phase::WriteNext => self.put(program, Header::Next.word(), self.ending.next_word()),
-            Phase::WriteFinished => self.put(program, Header::Finished.word(), self.pick.position as u64 + 1),
+            Phase::WriteStopped { timer } => self.put_header(
+                program,
+                Header::Due(timer),
+                due_word(None),
+            ),
+            Phase::WriteNext => self.put_header(program, Header::Next, self.ending.next_word()),
+            Phase::WriteFinished => self.put_header(
+                program,
+                Header::Finished,
+                self.pick.position as u64 + 1,
+            ),
             Phase::ReadTotal => self.get(program, self.ending.total_word()),
             Phase::WriteTotal { total } => self.put(program, self.ending.total_word(), total),
-            Phase::WriteStamp => self.put(program, Header::Stamp.word(), self.stamp + 1),
+            Phase::WriteStamp => self.put_header(program, Header::Stamp, self.stamp + 1),
             Phase::StoreCommit => self.commit(program),
             Phase::StoreAck { source, count } => {
                 Step::Store(Place::Ack { source }, (count as u64 + 1) % 64)
@@ -108,6 +136,30 @@ impl TaskMachine {
         self.buffer.get(self.pick.thread, word)
     }
 
+    // The next access of a write to a word of the thread's header.
+    #[inline(always)]
+    fn put_header(&self, program: &Program, header: Header, value: u64) -> Step
+        requires accepted { IsAccepted program.now }
+        requires known { self.now.pick.thread.0 < length program.now.threads }
+        requires header { IsHeader header }
+        ensures step { access_of result ≡ pages.put_access self.now.pick.thread.0 self.now.buffer (word_of header) value }
+        ensures there { IsOnBoard program.now (places.place_of (access_of result)) }
+    {
+        self.put(program, header.word(), value)
+    }
+
+    // The access that reads a word of the thread's header.
+    #[inline(always)]
+    fn get_header(&self, program: &Program, header: Header) -> Step
+        requires accepted { IsAccepted program.now }
+        requires known { self.now.pick.thread.0 < length program.now.threads }
+        requires header { IsHeader header }
+        ensures step { access_of result ≡ pages.get_access self.now.pick.thread.0 self.now.buffer (word_of header) }
+        ensures there { IsOnBoard program.now (places.place_of (access_of result)) }
+    {
+        self.get(program, header.word())
+    }
+
     // The first access of a running chain: a write where it has expired, else the load of its task's first code word.
     fn resume(&self, program: &Program) -> Step
         requires accepted { IsAccepted program.now }
@@ -118,7 +170,7 @@ impl TaskMachine {
         ensures there { IsOnBoard program.now (places.place_of (access_of result)) }
     {
         if self.is_late(program) {
-            self.put(program, Header::Next.word(), next_word(None))
+            self.put_header(program, Header::Next, next_word(None))
         } else {
             self.fetch(program)
         }
