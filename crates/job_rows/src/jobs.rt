@@ -28,7 +28,11 @@ const CHARGE: &[u8] = b"charge 0 S0*9 K*200\n";
 fn parts(alloc: Global) -> Result<(usize, bool, bool), JobAnswer> {
     let job = job(alloc, b"S0 7", CHARGE)?;
     let tasks = job.accepted().program().tasks.len();
-    Ok((tasks, is_first_charge(job.charges()), are_its_readings(&job)))
+    Ok((
+        tasks,
+        is_first_charge(job.charges()),
+        are_its_readings(&job),
+    ))
 }
 
 #[test]

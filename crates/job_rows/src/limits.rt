@@ -90,8 +90,14 @@ const OF_CHARGES: &[Case] = &[
     ("charge 0 K*4194303 T", None),
     ("charge 0 K*4194304 T", Some((10, Cause::OverLimit))),
     ("charge 0 K*4194304\ncharge 0 S0*0", None),
-    ("charge 0 K*4194304\ncharge 0 S0", Some((11, Cause::OverLimit))),
-    ("charge 0\ncharge 0 K*4194304 X", Some((11, Cause::UnknownWord))),
+    (
+        "charge 0 K*4194304\ncharge 0 S0",
+        Some((11, Cause::OverLimit)),
+    ),
+    (
+        "charge 0\ncharge 0 K*4194304 X",
+        Some((11, Cause::UnknownWord)),
+    ),
 ];
 
 fn are_right_charges(alloc: Global, case: &Case) -> Result<bool, NoMemory> {

@@ -45,7 +45,12 @@ fn is_first_charge(charges: &[Charge]) -> bool {
 fn parts(alloc: Global) -> Result<(usize, u32, bool, bool), NoMemory> {
     let job = soak_job(alloc, 1)?;
     let charges = job.charges();
-    Ok((charges.len(), turns(charges), are_its_readings(&job), is_first_charge(charges)))
+    Ok((
+        charges.len(),
+        turns(charges),
+        are_its_readings(&job),
+        is_first_charge(charges),
+    ))
 }
 
 #[test]

@@ -76,12 +76,7 @@ fn status_of_write(alloc: Global, sink: &mut MemSink) -> Result<Status, AllocErr
 }
 
 // A write that fails at this call of so many bytes each leaves what was written before.
-fn is_write_fault(
-    alloc: Global,
-    chunk: usize,
-    call: u64,
-    written: usize,
-) -> Result<bool, NoMemory>
+fn is_write_fault(alloc: Global, chunk: usize, call: u64, written: usize) -> Result<bool, NoMemory>
     requires { 1 ≤ chunk }
 {
     let mut sink = sink_of(alloc, chunk, call)?;

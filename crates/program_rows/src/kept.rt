@@ -12,12 +12,7 @@ const FULL_QUEUE: &str =
     "[program]\nthread a priority 1 queue 2 state 1 log 8\nsource a\ntask sum thread a limit 100\nli r1 0\nld r2 r1\nev r3\nadd r2 r2 r3\nst r2 r1\nout r2\ndone\nend\n[sensors]\nS0 7 8 9\n[power]\ncharge 0 S0*20\n";
 
 // What is kept of a mode for a job; a read of it fails at this call.
-fn kept_of(
-    alloc: Global,
-    mode: &str,
-    job: &str,
-    call: u64,
-) -> Result<Option<Record>, AllocError> {
+fn kept_of(alloc: Global, mode: &str, job: &str, call: u64) -> Result<Option<Record>, AllocError> {
     let mut source = source_of(alloc, job, 100, call)?;
     let finish = called(alloc, mode, &mut source, &mut SureSink::new())?;
     Ok(finish.kept)

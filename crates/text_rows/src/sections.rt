@@ -82,7 +82,12 @@ fn is_sum(code: &[Instr]) -> bool {
 fn parts(alloc: Global) -> Result<(u32, bool, bool, bool), JobAnswer> {
     let (program, _, next) = read(alloc, JOB)?;
     let code_is = is_sum(code(&program, 0));
-    Ok((next, has_its_thread(&program), has_its_task(&program), code_is))
+    Ok((
+        next,
+        has_its_thread(&program),
+        has_its_task(&program),
+        code_is,
+    ))
 }
 
 #[test]
@@ -152,7 +157,11 @@ fn are_timers(program: &Program) -> bool {
 // Whether the threads, the pipe and the timers of the forms are read.
 fn are_forms(alloc: Global) -> Result<(bool, bool, bool), JobAnswer> {
     let (program, _, _) = with_forms(alloc, "end\n[sensors]\n")?;
-    Ok((are_threads(&program), is_pipe(&program), are_timers(&program)))
+    Ok((
+        are_threads(&program),
+        is_pipe(&program),
+        are_timers(&program),
+    ))
 }
 
 #[test]
