@@ -24,7 +24,7 @@ use Rattle.never_cut.proofs.Threads.{thread_of-with_same, thread_of-with_other}
 use Rattle.push_core.proofs.Unsettled.{unsettled_least, unsettled_one}
 use Rattle.never_cut.proofs.SoundThreads.{settled_at}
 use Rattle.never_cut.proofs.SoundParts.{IsSoundAt, IsServedBy, ThreadSound, HasSoundParts, taken_in}
-use Rattle.never_cut.proofs.SoundSources.{source_same, settles_more, sources_with, source_made, sources_same}
+use Rattle.never_cut.proofs.SoundSources.{next_of, source_same, settles_more, sources_with, source_made, sources_same}
 
 -- a state in which one thread and the sources have changed
 pub thread_changes : (program : Program) (m next : Model) (t : ℕ) (x : ThreadModel) → t < length m.threads → next.threads ≡ (with_thread m t x).threads →
