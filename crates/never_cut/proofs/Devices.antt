@@ -51,8 +51,7 @@ service_told deadline x = by_period (x.period == 0)
 armed_told : (o : Option ℕ) (n : ℕ) (set : TimerSet) (x : TimerModel) → set.due ≡ o → o ≡ Some n → due_word (Some n) ≡ due_word (set_by set x).due
 armed_told None n set x is some = absurd (let clash : None ≡ Some n = some in cc)
 armed_told (Some tick) n set x is some =
-    ap due_word (sym some)
-    ∙ sym (ap (λ (o : Option ℕ). due_word (elim o [ None ↦ record x { due = None } | Some due ↦ record { due = Some due; period = set.period } ]).due) is)
+    ap due_word (sym some) ∙ sym (ap (λ (o : Option ℕ). due_word (set_by (record set { due = o }) x).due) is)
 
 module _ (program : Program) (words : Memory) (m : Model) (accepted : IsAccepted program) (private : StandsPrivate words program m) where
   pipe_told : (q : ℕ) → q < length program.pipes → IsPipeTold program words m q
