@@ -33,17 +33,17 @@ unfolding thread_words
 written_at y stamp origin value q lt =
     below_eight (λ k. slice_index (thread_words y stamp origin value) (header.written k) ≡ y.written k) refl refl refl refl refl refl refl refl q lt
 
-taken_at : (y : Saved) (stamp origin value q : ℕ) → q < 8 → slice_index (thread_words y stamp origin value) (header.taken q) ≡ y.taken q
+pub taken_at : (y : Saved) (stamp origin value q : ℕ) → q < 8 → slice_index (thread_words y stamp origin value) (header.taken q) ≡ y.taken q
 unfolding thread_words
 taken_at y stamp origin value q lt =
     below_eight (λ k. slice_index (thread_words y stamp origin value) (header.taken k) ≡ y.taken k) refl refl refl refl refl refl refl refl q lt
 
-due_at : (y : Saved) (stamp origin value j : ℕ) → j < 8 → slice_index (thread_words y stamp origin value) (header.due j) ≡ y.due j
+pub due_at : (y : Saved) (stamp origin value j : ℕ) → j < 8 → slice_index (thread_words y stamp origin value) (header.due j) ≡ y.due j
 unfolding thread_words
 due_at y stamp origin value j lt =
     below_eight (λ k. slice_index (thread_words y stamp origin value) (header.due k) ≡ y.due k) refl refl refl refl refl refl refl refl j lt
 
-period_at : (y : Saved) (stamp origin value j : ℕ) → j < 8 → slice_index (thread_words y stamp origin value) (header.period j) ≡ y.period j
+pub period_at : (y : Saved) (stamp origin value j : ℕ) → j < 8 → slice_index (thread_words y stamp origin value) (header.period j) ≡ y.period j
 unfolding thread_words
 period_at y stamp origin value j lt =
     below_eight (λ k. slice_index (thread_words y stamp origin value) (header.period k) ≡ y.period k) refl refl refl refl refl refl refl refl j lt

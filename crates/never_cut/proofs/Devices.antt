@@ -9,7 +9,7 @@ use Rattle.fram_words.specs.Header as header
 use Rattle.fram_words.specs.Held.{due_word}
 use Rattle.thread_state.specs.Pages.{committed}
 use Rattle.event_pipe.specs.Ring as ring
-use Rattle.persist_timer.specs.Due as due
+use Rattle.persist_timer.specs.Due as timers
 use Rattle.prog_check.specs.Accepted.{IsAccepted}
 use Rattle.prog_check.specs.Lookup.{pipe_def, timer_def}
 use Rattle.never_cut.specs.declared.model.Model.{Model}
@@ -34,14 +34,14 @@ same_lt a b c d to from =
           ]
     ]
 
-due_told : (o : Option ℕ) (time : ℕ) → due.is_due (due_word o) time ≡ is_due_by o time
+due_told : (o : Option ℕ) (time : ℕ) → timers.is_due (due_word o) time ≡ is_due_by o time
 due_told None time = refl
 due_told (Some tick) time =
     let some : nat_lt 0 (tick + 1) ≡ true = lt-ltb 0 (tick + 1) (omega arith) in
     let back : tick + 1 - 1 ≡ tick = omega arith in
     ap (λ b. b && nat_le (tick + 1 - 1) time) some ∙ ap (λ n. nat_le n time) back
 
-service_told : (deadline : ℕ) (x : TimerModel) → due.after_service (deadline + 1) x.period ≡ due_word (next_due deadline x)
+service_told : (deadline : ℕ) (x : TimerModel) → timers.after_service (deadline + 1) x.period ≡ due_word (next_due deadline x)
 service_told deadline x = by_period (x.period == 0)
   where
     by_period : (b : Bool) → (if b then 0 else deadline + 1 + x.period) ≡ due_word (if b then None else Some (deadline + x.period))
@@ -51,8 +51,7 @@ service_told deadline x = by_period (x.period == 0)
 armed_told : (o : Option ℕ) (n : ℕ) (set : TimerSet) (x : TimerModel) → set.due ≡ o → o ≡ Some n → due_word (Some n) ≡ due_word (set_by set x).due
 armed_told None n set x is some = absurd (let clash : None ≡ Some n = some in cc)
 armed_told (Some tick) n set x is some =
-    ap due_word (sym some)
-    ∙ sym (ap (λ (o : Option ℕ). due_word (elim o [ None ↦ record x { due = None } | Some due ↦ record { due = Some due; period = set.period } ]).due) is)
+    ap due_word (sym some) ∙ sym (ap (λ (o : Option ℕ). due_word (set_by (record set { due = o }) x).due) is)
 
 module _ (program : Program) (words : Memory) (m : Model) (accepted : IsAccepted program) (private : StandsPrivate words program m) where
   pipe_told : (q : ℕ) → q < length program.pipes → IsPipeTold program words m q
@@ -77,10 +76,10 @@ module _ (program : Program) (words : Memory) (m : Model) (accepted : IsAccepted
       let word : due_of_timer program words j ≡ due_word (timer_of m j).due = timer_count program words m (timer_def program j).thread.0 j accepted timer.thread private known refl in
       let period : period_of_timer program words j ≡ (timer_of m j).period = period_count program words m (timer_def program j).thread.0 j accepted timer.thread private known refl in
       record {
-        due = λ time. ap (λ n. due.is_due n time) word ∙ due_told (timer_of m j).due time;
+        due = λ time. ap (λ n. timers.is_due n time) word ∙ due_told (timer_of m j).due time;
         service = λ deadline is.
-            ap (λ n. due.after_service n (period_of_timer program words j)) (word ∙ ap due_word is)
-            ∙ (ap (λ n. due.after_service (deadline + 1) n) period ∙ service_told deadline (timer_of m j));
+            ap (λ n. timers.after_service n (period_of_timer program words j)) (word ∙ ap due_word is)
+            ∙ (ap (λ n. timers.after_service (deadline + 1) n) period ∙ service_told deadline (timer_of m j));
         armed = λ set time delay is. armed_told set.due (time + delay) set (timer_of m j) refl is;
       }
 
@@ -88,5 +87,5 @@ pub every_device : EveryDeviceTold
 every_device program words m accepted private = record {
   pipes = pipe_told program words m accepted private;
   timers = timer_told program words m accepted private;
-  chains = λ t known ticks time. ap (λ n. due.is_expired ticks n time) (first_word program words m t known private);
+  chains = λ t known ticks time. ap (λ n. timers.is_expired ticks n time) (first_word program words m t known private);
 }

@@ -1,5 +1,5 @@
 -- An image that isn't worn stands for the state that is read off it, and a run can begin there.
-use Rattle.std.proofs.Common.{◌≡◌, ℕ, ◌<◌, List, length, sym, ap, subst}
+use Rattle.std.proofs.Common.{◌≡◌, ℕ, ◌<◌, List, length, sym, ap, subst, arith}
 use Rattle.ink_base.specs.declared.event.Event.{Event}
 use Rattle.task_isa.specs.declared.program.Program.{Program}
 use Rattle.fram_words.specs.Places.{Memory, Tail, Ack, Src}

@@ -51,6 +51,17 @@ each_output P count (o ∷ outputs) known each =
     behind t n d true lt less each = each (suc n) d lt (omega arith)
     behind t n d false lt less each = each n d lt less
 
+-- the values of a thread's outputs have 32 bits, as all have
+value_kept : (t : ℕ) (o : Output) (outputs : List Output) (b : Bool) → o.value < 2 ^ 32 → All (λ (o : Output). o.value < 2 ^ 32) (outputs_in t outputs) →
+    All (λ (o : Output). o.value < 2 ^ 32) (cond b (o ∷ outputs_in t outputs) (outputs_in t outputs))
+value_kept t o outputs true small rest = All-cons (λ (o : Output). o.value < 2 ^ 32) o (outputs_in t outputs) small rest
+value_kept t o outputs false small rest = rest
+
+values_kept : (program : Program) (t : ℕ) (outputs : List Output) → All (IsOutputOf program) outputs → All (λ (o : Output). o.value < 2 ^ 32) (outputs_in t outputs)
+values_kept program t [] all = All-nil (λ (o : Output). o.value < 2 ^ 32)
+values_kept program t (o ∷ outputs) all =
+    value_kept t o outputs (o.thread.0 == t) (all 0 o (omega arith)).1 (values_kept program t outputs (λ k d lt. all (suc k) d (omega arith)))
+
 module _ (program : Program) (listed : List ℕ) (words : Memory) (m : Model) (accepted : IsAccepted program) (image : IsImage program words)
     (fresh : ¬ IsWorn program listed words) (read : IsReadOff program words m) where
   -- an output's stamp is one that its thread has reached
@@ -68,20 +79,9 @@ module _ (program : Program) (listed : List ℕ) (words : Memory) (m : Model) (a
   pub read_stamps : HasStamps m
   read_stamps = record {
     below = each_output (λ (o : Output). o.stamp ≤ m.commits) (length program.threads) m.outputs (λ k d lt. (read.outputs k d lt).0)
-        (λ t n d known lt. stamp_below t n d known lt (small t n d lt));
+        (λ t n d known lt. stamp_below t n d known lt (values_kept program t m.outputs read.outputs n d lt));
     ordered = read.ordered;
   }
-    where
-      kept : (t : ℕ) (outputs : List Output) → All (IsOutputOf program) outputs → All (λ (o : Output). o.value < 2 ^ 32) (outputs_in t outputs)
-      kept t [] all = All-nil (λ (o : Output). o.value < 2 ^ 32)
-      kept t (o ∷ outputs) all = by_own (o.thread.0 == t)
-        where
-          by_own : (b : Bool) → All (λ (o : Output). o.value < 2 ^ 32) (cond b (o ∷ outputs_in t outputs) (outputs_in t outputs))
-          by_own true = All-cons (λ (o : Output). o.value < 2 ^ 32) o (outputs_in t outputs) (all 0 o (omega arith)).1 (kept t outputs (λ k d lt. all (suc k) d (omega arith)))
-          by_own false = kept t outputs (λ k d lt. all (suc k) d (omega arith))
-
-      small : (t n : ℕ) (d : Output) → n < length (outputs_of m t) → (get_or (outputs_of m t) n d).value < 2 ^ 32
-      small t n d lt = kept t m.outputs read.outputs n d lt
 
   -- a count of services
   services_few : (t w : ℕ) → t < length program.threads → header.served ≤ w → w ≤ header.expired → committed words t w < 2 ^ 31

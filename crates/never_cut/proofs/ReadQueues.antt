@@ -79,11 +79,16 @@ module _ (program : Program) (words : Memory) (t : ℕ) where
   event_read : (p : ℕ) (e : Event) → event_in program t p (slot_of program words t p) ≡ Some e → IsReadAt program words t p e
   event_read p e is = event_at_slot p e (slot_of program words t p) refl is
 
+  -- an event and those behind it, or none
+  abbrev pub followed : (p most : ℕ) → Option Event → List Event
+  followed p most None = []
+  followed p most (Some e) = e ∷ events_from program words t (p + 1) most
+
   first_read : (p most : ℕ) →
       ((k : ℕ) → k < length (events_from program words t (p + 1) most) → IsReadAt program words t (p + 1 + k) (event_at (events_from program words t (p + 1) most) k)) →
       (o : Option Event) → event_in program t p (slot_of program words t p) ≡ o → (k : ℕ) →
-      k < length (elim o [ None ↦ [] | Some e ↦ e ∷ events_from program words t (p + 1) most ]) →
-      IsReadAt program words t (p + k) (event_at (elim o [ None ↦ [] | Some e ↦ e ∷ events_from program words t (p + 1) most ]) k)
+      k < length (followed p most o) →
+      IsReadAt program words t (p + k) (event_at (followed p most o) k)
   first_read p most rest None is k lt = absurd (omega arith)
   first_read p most rest (Some e) is zero lt = subst (λ n. IsReadAt program words t n e) (let z : p ≡ p + 0 = omega arith in z) (event_read p e is)
   first_read p most rest (Some e) is (suc k) lt =
@@ -96,7 +101,7 @@ module _ (program : Program) (words : Memory) (t : ℕ) where
       first_read p most (λ j less. events_read most (p + 1) j less) (event_in program t p (slot_of program words t p)) refl k lt
 
   first_few : (p most : ℕ) (o : Option Event) → length (events_from program words t (p + 1) most) ≤ most →
-      length (elim o [ None ↦ [] | Some e ↦ e ∷ events_from program words t (p + 1) most ]) ≤ suc most
+      length (followed p most o) ≤ suc most
   first_few p most None le = omega arith
   first_few p most (Some e) le = omega arith
 

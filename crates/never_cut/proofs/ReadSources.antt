@@ -38,9 +38,9 @@ any_found : (test : Event → Bool) (held : List Event) → list_any test held �
 any_found test [] is = absurd (let clash : false ≡ true = is in cc)
 any_found test (e ∷ held) is =
     elim (cases_Bool (test e)) [
-      | inl yes ↦ (zero, omega arith, yes)
-      | inr no ↦
-          let rest : list_any test held ≡ true = sym (ap (λ b. b || list_any test held) no) ∙ is in
+      | inl is_so ↦ (zero, omega arith, is_so)
+      | inr isnt ↦
+          let rest : list_any test held ≡ true = sym (ap (λ b. b || list_any test held) isnt) ∙ is in
           let found = any_found test held rest in (suc found.0, omega (arith, found.1), found.2)
     ]
 
@@ -94,23 +94,23 @@ AreCounted i held first =
 
 first_numbered : (i : ℕ) (e : Event) (held : List Event) (first : ℕ) (b : Bool) → (event_source e == i) ≡ b → AreCounted i (e ∷ held) first →
     ((n : ℕ) → AreCounted i held n → Numbered i held n (n + own_events i held)) →
-    MatchBool b ((event_count e ≡ first % 64) × Numbered i held (suc first) (first + (cond b 1 0 + own_events i held))) (Numbered i held first (first + (cond b 1 0 + own_events i held)))
+    MatchBool b ((event_count e ≡ first % 64) × Numbered i held (first + 1) (first + (flag b + own_events i held))) (Numbered i held first (first + (flag b + own_events i held)))
 first_numbered i e held first true test counts rest =
     let here : event_count e ≡ (first + 0) % 64 = counts zero (omega arith) (eqb-true _ _ test) in
-    let next : AreCounted i held (suc first) = λ j lt is.
+    let next : AreCounted i held (first + 1) = λ j lt is.
         counts (suc j) (omega arith) is
-        ∙ ap (λ n. (first + n) % 64) (ap (λ (b : Bool). cond b 1 0 + own_events i (take j held)) test)
-        ∙ ap (λ n. n % 64) (let s : first + (1 + own_events i (take j held)) ≡ suc first + own_events i (take j held) = omega arith in s)
+        ∙ ap (λ (b : Bool). (first + (flag b + own_events i (take j held))) % 64) test
+        ∙ ap (λ n. n % 64) (let s : first + (flag true + own_events i (take j held)) ≡ first + 1 + own_events i (take j held) = omega arith in s)
     in (
       here ∙ ap (λ n. n % 64) (let z : first + 0 ≡ first = omega arith in z),
-      subst (Numbered i held (suc first)) (let s : suc first + own_events i held ≡ first + (1 + own_events i held) = omega arith in s) (rest (suc first) next),
+      subst (Numbered i held (first + 1)) (let s : first + 1 + own_events i held ≡ first + (flag true + own_events i held) = omega arith in s) (rest (first + 1) next),
     )
 first_numbered i e held first false test counts rest =
     let next : AreCounted i held first = λ j lt is.
         counts (suc j) (omega arith) is
-        ∙ ap (λ n. (first + n) % 64) (ap (λ (b : Bool). cond b 1 0 + own_events i (take j held)) test)
-        ∙ ap (λ n. n % 64) (let s : first + (0 + own_events i (take j held)) ≡ first + own_events i (take j held) = omega arith in s)
-    in subst (Numbered i held first) (let s : first + own_events i held ≡ first + (0 + own_events i held) = omega arith in s) (rest first next)
+        ∙ ap (λ (b : Bool). (first + (flag b + own_events i (take j held))) % 64) test
+        ∙ ap (λ n. n % 64) (let s : first + (flag false + own_events i (take j held)) ≡ first + own_events i (take j held) = omega arith in s)
+    in subst (Numbered i held first) (let s : first + own_events i held ≡ first + (flag false + own_events i held) = omega arith in s) (rest first next)
 
 numbered : (i : ℕ) (held : List Event) (first : ℕ) → AreCounted i held first → Numbered i held first (first + own_events i held)
 numbered i [] first counts = omega arith
@@ -119,18 +119,18 @@ numbered i (e ∷ held) first counts = first_numbered i e held first (event_sour
 -- and the other way round
 first_counted : (i : ℕ) (e : Event) (held : List Event) (first last : ℕ) (b : Bool) → (event_source e == i) ≡ b →
     ((n : ℕ) → Numbered i held n last → (last ≡ n + own_events i held) × AreCounted i held n) →
-    MatchBool b ((event_count e ≡ first % 64) × Numbered i held (suc first) last) (Numbered i held first last) →
-    (last ≡ first + (cond b 1 0 + own_events i held))
+    MatchBool b ((event_count e ≡ first % 64) × Numbered i held (first + 1) last) (Numbered i held first last) →
+    (last ≡ first + (flag b + own_events i held))
     × ((j : ℕ) → j < length (e ∷ held) → event_source (event_at (e ∷ held) j) ≡ i → event_count (event_at (e ∷ held) j) ≡ (first + own_events i (take j (e ∷ held))) % 64)
 first_counted i e held first last true test rest h =
-    let back = rest (suc first) h.1 in (omega (arith, back.0), each)
+    let back = rest (first + 1) h.1 in (omega (arith, back.0), each)
   where
     each : (j : ℕ) → j < length (e ∷ held) → event_source (event_at (e ∷ held) j) ≡ i → event_count (event_at (e ∷ held) j) ≡ (first + own_events i (take j (e ∷ held))) % 64
     each zero lt own = h.0 ∙ ap (λ n. n % 64) (let z : first ≡ first + 0 = omega arith in z)
     each (suc j) lt own =
-        (rest (suc first) h.1).1 j (omega arith) own
-        ∙ ap (λ n. n % 64) (let s : suc first + own_events i (take j held) ≡ first + (1 + own_events i (take j held)) = omega arith in s)
-        ∙ ap (λ (b : Bool). (first + (cond b 1 0 + own_events i (take j held))) % 64) (sym test)
+        (rest (first + 1) h.1).1 j (omega arith) own
+        ∙ ap (λ n. n % 64) (let s : first + 1 + own_events i (take j held) ≡ first + (flag true + own_events i (take j held)) = omega arith in s)
+        ∙ ap (λ (b : Bool). (first + (flag b + own_events i (take j held))) % 64) (sym test)
 first_counted i e held first last false test rest h =
     let back = rest first h in (omega (arith, back.0), each)
   where
@@ -138,8 +138,8 @@ first_counted i e held first last false test rest h =
     each zero lt own = absurd (let clash : false ≡ true = sym test ∙ eq-eqb _ _ own in cc)
     each (suc j) lt own =
         (rest first h).1 j (omega arith) own
-        ∙ ap (λ n. n % 64) (let s : first + own_events i (take j held) ≡ first + (0 + own_events i (take j held)) = omega arith in s)
-        ∙ ap (λ (b : Bool). (first + (cond b 1 0 + own_events i (take j held))) % 64) (sym test)
+        ∙ ap (λ n. n % 64) (let s : first + own_events i (take j held) ≡ first + (flag false + own_events i (take j held)) = omega arith in s)
+        ∙ ap (λ (b : Bool). (first + (flag b + own_events i (take j held))) % 64) (sym test)
 
 pub counted : (i : ℕ) (held : List Event) (first last : ℕ) → Numbered i held first last → (last ≡ first + own_events i held) × AreCounted i held first
 counted i [] first last h = (omega (arith, h), λ j lt own. absurd (omega arith))
@@ -151,9 +151,9 @@ some_own : (i : ℕ) (held : List Event) → 0 < own_events i held → (j : ℕ)
 some_own i [] some = absurd (omega arith)
 some_own i (e ∷ held) some =
     elim (cases_Bool (event_source e == i)) [
-      | inl yes ↦ (zero, omega arith, eqb-true _ _ yes)
-      | inr no ↦
-          let none : cond (event_source e == i) 1 0 ≡ 0 = ap (λ (b : Bool). cond b 1 0) no in
+      | inl is_so ↦ (zero, omega arith, eqb-true _ _ is_so)
+      | inr isnt ↦
+          let none : flag (event_source e == i) ≡ 0 = ap flag isnt in
           let found = some_own i held (omega (arith, none)) in (suc found.0, omega (arith, found.1), found.2)
     ]
 

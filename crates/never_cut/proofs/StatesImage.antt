@@ -150,6 +150,10 @@ module _ (program : Program) (readings : Readings) (words : Memory) (m : Model) 
         word_fits None fits = omega arith
         word_fits (Some due) fits = let lt = fits due refl in omega arith
 
+        none_below : (j : ℕ) → length program.timers ≤ j → (n v : ℕ) → 0 < n → (if owns_timer program t j then v else 0) < n
+        none_below j past n v some =
+            rw (le-ltb j (length program.timers) past) some
+
         due_below : (j : ℕ) → (saved program m t).due j < 2 ^ 48 + 1
         due_below j =
             elim (cases_lt j (length program.timers)) [
@@ -163,10 +167,6 @@ module _ (program : Program) (readings : Readings) (words : Memory) (m : Model) 
               | inl there ↦ chosen_below (owns_timer program t j) (timer_of m j).period (2 ^ 32) (sound.timers j there).period (omega arith)
               | inr past ↦ none_below j past (2 ^ 32) (timer_of m j).period (omega arith)
             ]
-
-        none_below : (j : ℕ) → length program.timers ≤ j → (n v : ℕ) → 0 < n → (if owns_timer program t j then v else 0) < n
-        none_below j past n v some =
-            rw (le-ltb j (length program.timers) past) some
 
     log_right : (n : ℕ) → n < committed words t header.outputs → IsLogWord program words t n
     log_right n lt =
@@ -257,8 +257,8 @@ module _ (program : Program) (readings : Readings) (words : Memory) (m : Model) 
         let more = stood.one_more (more_is program words i few is) in
         let one : flag (is_one_more program words i) ≡ 1 = ap flag is in (omega (arith, more.0, one), omega (arith, more.1, one))
     numbers_told false is =
-        let as = stood.as_many (λ more. absurd (let clash : false ≡ true = sym is ∙ more_found program words i few more in cc)) in
-        let none : flag (is_one_more program words i) ≡ 0 = ap flag is in (omega (arith, as.0, none), omega (arith, as.1, none))
+        let kept = stood.as_many (λ more. absurd (let clash : false ≡ true = sym is ∙ more_found program words i few more in cc)) in
+        let none : flag (is_one_more program words i) ≡ 0 = ap flag is in (omega (arith, kept.0, none), omega (arith, kept.1, none))
 
     source_right : IsSourceRight program words i
     source_right =
@@ -277,7 +277,7 @@ module _ (program : Program) (readings : Readings) (words : Memory) (m : Model) 
           );
           ack = elim kept.ack_is [
             | inl is ↦ inl (is ∙ ap (λ n. n % 64) gone_is)
-            | inr done ↦ inr (subst (IsFinishing i) (sym queue_is) done.0, done.1 ∙ ap (λ n. (n + 1) % 64) gone_is)
+            | inr done ↦ inr (subst (λ (z : ℕ × Queue). IsFinishing i z.0 z.1) (λ k. (gone_is k % 64, sym queue_is k)) done.0, done.1 ∙ ap (λ n. (n + 1) % 64) gone_is)
           ];
         }
 

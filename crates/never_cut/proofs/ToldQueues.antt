@@ -22,6 +22,7 @@ use Rattle.never_cut.specs.Stands.{flag, slots_of, Stands}
 use Rattle.never_cut.specs.Sound.{IsQueued, IsSound}
 use Rattle.never_cut.specs.ReadOff.{slot_of, is_full_of, event_in, events_from, told_finished, told_released, told_held, told_queue}
 use Rattle.never_cut.proofs.Blocks.{finished_word}
+use Rattle.never_cut.proofs.ReadQueues.{followed}
 use Rattle.never_cut.proofs.Slots.{IsReadable, held_slot, free_slot, ShowsOther, old_slot}
 use Rattle.never_cut.proofs.SoundStates.{published_bound}
 
@@ -43,17 +44,13 @@ pub record AreHeldFrom (program : Program) (words : Memory) (t p most : ℕ) (he
   pub behind : length held < most → slot_of program words t (p + length held) ≡ Some (Empty (p + length held))
 
 module _ (program : Program) (words : Memory) (t : ℕ) where
-  -- what follows an event, or none
-  abbrev followed : (p most : ℕ) → Option Event → List Event
-  followed p most o = elim o [ None ↦ [] | Some e ↦ e ∷ events_from program words t (p + 1) most ]
-
   events_told : (most p : ℕ) (held : List Event) → AreHeldFrom program words t p most held → events_from program words t p most ≡ held
   events_told zero p [] h = refl
   events_told zero p (e ∷ held) h = absurd (let le = h.few in omega arith)
   events_told (suc most) p [] h =
       let at : p + 0 ≡ p = omega arith in
       let empty : slot_of program words t p ≡ Some (Empty p) = subst (λ n. slot_of program words t n ≡ Some (Empty n)) at (h.behind (omega arith)) in
-      ap (λ s. followed p most (event_in program t p s)) empty
+      ap (λ s. followed program words t p most (event_in program t p s)) empty
   events_told (suc most) p (e ∷ held) h =
       let at : p + 0 ≡ p = omega arith in
       let here : slot_of program words t p ≡ Some (event_slot p e) = subst (λ n. slot_of program words t n ≡ Some (event_slot n e)) at (h.shown 0 (omega arith)) in
@@ -63,8 +60,8 @@ module _ (program : Program) (words : Memory) (t : ℕ) where
         shown = λ k lt. subst (λ n. slot_of program words t n ≡ Some (event_slot n (event_at held k))) (let s : p + suc k ≡ p + 1 + k = omega arith in s) (h.shown (suc k) (omega arith));
         behind = λ lt. subst (λ n. slot_of program words t n ≡ Some (Empty n)) (let s : p + suc (length held) ≡ p + 1 + length held = omega arith in s) (h.behind (omega arith));
       }) in
-      ap (λ s. followed p most (event_in program t p s)) here
-      ∙ (ap (followed p most) (event_told program t p e.value e.origin (h.queued 0 (omega arith))) ∙ ap (λ l. e ∷ l) rest)
+      ap (λ s. followed program words t p most (event_in program t p s)) here
+      ∙ (ap (followed program words t p most) (event_told program t p e.value e.origin (h.queued 0 (omega arith))) ∙ ap (λ l. e ∷ l) rest)
 
 -- a slot that shows no event of a position has none
 shown_other : (p : ℕ) (s : Option slot.Slot) → ShowsOther p s → is_full_of p s ≡ false

@@ -7,7 +7,7 @@ use Rattle.fram_words.specs.Header as header
 use Rattle.fram_words.specs.Held.{due_word}
 use Rattle.thread_state.specs.Pages.{committed}
 use Rattle.event_pipe.specs.Ring as ring
-use Rattle.persist_timer.specs.Due as due
+use Rattle.persist_timer.specs.Due as timers
 use Rattle.prog_check.specs.Accepted.{IsAccepted}
 use Rattle.prog_check.specs.Lookup.{pipe_def, timer_def}
 use Rattle.never_cut.specs.declared.model.Model.{Model}
@@ -33,15 +33,15 @@ period_of_timer program words j = committed words (timer_def program j).thread.0
 
 -- the words of a timer tell whether it is due, and what its service leaves; a timer that is set has the word of its due time
 pub record IsTimerTold (program : Program) (words : Memory) (m : Model) (j : ℕ) : Type 0 where
-  pub due : (time : ℕ) → due.is_due (due_of_timer program words j) time ≡ is_due_by (timer_of m j).due time
+  pub due : (time : ℕ) → timers.is_due (due_of_timer program words j) time ≡ is_due_by (timer_of m j).due time
   pub service : (deadline : ℕ) → (timer_of m j).due ≡ Some deadline →
-      due.after_service (due_of_timer program words j) (period_of_timer program words j) ≡ due_word (next_due deadline (timer_of m j))
-  pub armed : (set : TimerSet) (time delay : ℕ) → set.due ≡ Some (time + delay) → due.armed time delay ≡ due_word (set_by set (timer_of m j)).due
+      timers.after_service (due_of_timer program words j) (period_of_timer program words j) ≡ due_word (next_due deadline (timer_of m j))
+  pub armed : (set : TimerSet) (time delay : ℕ) → set.due ≡ Some (time + delay) → timers.armed time delay ≡ due_word (set_by set (timer_of m j)).due
 
 -- the time of its first commit tells whether a chain has expired
 abbrev pub IsExpiryTold : Memory → Model → (t : ℕ) → Type 0
 IsExpiryTold words m t =
-    (ticks time : ℕ) → due.is_expired ticks (committed words t header.first) time ≡ is_overdue (Some ticks) (thread_of m t).first time
+    (ticks time : ℕ) → timers.is_expired ticks (committed words t header.first) time ≡ is_overdue (Some ticks) (thread_of m t).first time
 
 -- each pipe, each timer and each chain of words that stand
 pub record AreDevicesTold (program : Program) (words : Memory) (m : Model) : Type 0 where

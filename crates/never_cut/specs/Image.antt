@@ -1,6 +1,6 @@
 -- Words that a run can begin at: seven checks, in the order in which they are made. Each is told of one place after the other, the one that a reader names
 -- where the check fails there.
-use Rattle.std.specs.Prelude.{◌≡◌, ◌≢◌, ◌⊎◌, ℕ, ◌+◌, ◌-◌, ◌*◌, ◌/◌, ◌%◌, ◌^◌, ◌<◌, ◌≤◌, ◌==◌, true, false, List, length, take, count_by}
+use Rattle.std.specs.Prelude.{◌≡◌, ◌≢◌, ◌⊎◌, ℕ, ◌+◌, ◌-◌, ◌*◌, ◌/◌, ◌%◌, ◌^◌, ◌<◌, ◌≤◌, ◌==◌, true, false, List, [], ◌∷◌, length, take}
 use Rattle.ink_base.specs.declared.event.Event.{Event}
 use Rattle.ink_base.specs.declared.event.Origin.{Origin}
 use Rattle.ink_base.specs.declared.event.Origin.TheVariants as origins
@@ -14,7 +14,7 @@ use Rattle.push_core.specs.Slots.{empty_word}
 use Rattle.push_core.specs.Queue.{Queue, published, event_at, event_source, event_count, IsFinishing}
 use Rattle.prog_check.specs.Lookup.{thread_def, pipe_def, task_def, instr_at, source_thread}
 use Rattle.ink_layout.specs.Shape.{pages_of}
-use Rattle.never_cut.specs.Stands.{writes_pipe, reads_pipe, owns_timer}
+use Rattle.never_cut.specs.Stands.{flag, writes_pipe, reads_pipe, owns_timer}
 use Rattle.never_cut.specs.Ranges.{IsOwnOrigin, IsTaskOf}
 use Rattle.never_cut.specs.ReadOff.{told_queue, told_finished, told_held, told_released, told_source}
 
@@ -127,7 +127,8 @@ IsSrcWord words i = (src_of (words (Src i))).accepted ≤ (src_of (words (Src i)
 
 -- how many of these events are of source i
 abbrev pub own_events : (i : ℕ) → List Event → ℕ
-own_events i held = count_by (λ (e : Event). event_source e == i) held
+own_events i [] = 0
+own_events i (e ∷ held) = flag (event_source e == i) + own_events i held
 
 -- the events that the queue of a source holds
 abbrev pub held_for : Program → Memory → (i : ℕ) → List Event
@@ -146,7 +147,7 @@ IsCountWord program words i j =
 abbrev pub IsAckWord : Program → Memory → (i : ℕ) → Type 0
 IsAckWord program words i =
     let gone : ℕ = (told_source program words i).accepted - own_events i (held_for program words i) in
-    (words (Ack i) ≡ gone % 64) ⊎ (IsFinishing i (told_queue program words (source_thread program i)) × (words (Ack i) ≡ (gone + 1) % 64))
+    (words (Ack i) ≡ gone % 64) ⊎ (IsFinishing i (gone % 64) (told_queue program words (source_thread program i)) × (words (Ack i) ≡ (gone + 1) % 64))
 
 -- the checks of a pipe, of a thread's queue and of a source
 pub record IsPipeRight (program : Program) (words : Memory) (q : ℕ) : Type 0 where
