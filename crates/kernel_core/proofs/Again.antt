@@ -1,5 +1,5 @@
 -- A core that begins again in the memory that is there.
-use Rattle.std.proofs.Common.{◌≡◌, ℕ, zero, suc, ◌<◌, List, [], ◌∷◌, length, map, get_or, refl, sym, ap, ◌∙◌, subst}
+use Rattle.std.proofs.Common.{◌≡◌, ℕ, zero, suc, List, [], ◌∷◌, length, map, get_or, refl, sym, ap, ◌∙◌, subst}
 use Rattle.std.proofs.lemmas.List.{length-map}
 use Rattle.fram_words.specs.declared.layout.Layout.{Layout}
 use Rattle.ink_layout.specs.Image.{IsFirstImage}

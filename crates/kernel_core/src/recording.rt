@@ -2,7 +2,7 @@
 ghost use Rattle.std.specs.Prelude.{◌≡◌, ◌+◌, ◌-◌, ◌<◌, ◌≤◌, ◌^◌, length, slice_index, vec_len, vec_capacity, IfOk};
 ghost use Rattle.never_cut.specs.Journal.{noted};
 ghost use Rattle.kernel_core.specs.Record.{not_begun, begun, with_kernel, with_source, with_tick};
-ghost use Rattle.kernel_core.specs.kept.Recorded.{Recorded, KeepsRoom, emptied};
+ghost use Rattle.kernel_core.specs.kept.Recorded.{Recorded, emptied};
 
 use crate::charge_record::ChargeRecord;
 use ink_base::{Entry, NoMemory};
@@ -79,7 +79,8 @@ impl Recording {
     fn note(&mut self, entry: Option<Entry>)
         requires { 0 < self.old.spare }
         ensures charge { self.new.charge ≡ record (self.old.charge) { entries = noted self.old.charge.entries entry } }
-        ensures room { KeepsRoom self.old self.new }
+        ensures spare { self.old.spare ≤ self.new.spare + 1 }
+        ensures capacity { self.new.capacity ≡ self.old.capacity }
     {
         if let Some(entry) = entry {
             self.entries.push_reserved(entry);
@@ -89,7 +90,8 @@ impl Recording {
     pub fn begin(&mut self, off: u32)
         requires spare { 0 < self.old.spare }
         ensures charge { self.new.charge ≡ begun off self.old.charge }
-        ensures room { KeepsRoom self.old self.new }
+        ensures spare { self.old.spare ≤ self.new.spare + 1 }
+        ensures capacity { self.new.capacity ≡ self.old.capacity }
     {
         self.off = off;
         self.note(Some(Entry::Tick { by: off as u64 }));
@@ -99,7 +101,8 @@ impl Recording {
         requires spare { 0 < self.old.spare }
         requires steps { self.old.charge.kernel_steps + 1 < 2 ^ 32 }
         ensures charge { self.new.charge ≡ with_kernel entry self.old.charge }
-        ensures room { KeepsRoom self.old self.new }
+        ensures spare { self.old.spare ≤ self.new.spare + 1 }
+        ensures capacity { self.new.capacity ≡ self.old.capacity }
     {
         self.note(entry);
         self.kernel_steps += 1;
@@ -110,7 +113,8 @@ impl Recording {
         requires known { source < length self.old.charge.source_steps }
         requires steps { slice_index self.old.charge.source_steps source + 1 < 2 ^ 32 }
         ensures charge { self.new.charge ≡ with_source source entry self.old.charge }
-        ensures room { KeepsRoom self.old self.new }
+        ensures spare { self.old.spare ≤ self.new.spare + 1 }
+        ensures capacity { self.new.capacity ≡ self.old.capacity }
     {
         self.note(entry);
         self.source_steps[source] += 1;
@@ -120,7 +124,8 @@ impl Recording {
         requires spare { 0 < self.old.spare }
         requires steps { self.old.charge.tick_steps + 1 < 2 ^ 32 }
         ensures charge { self.new.charge ≡ with_tick self.old.charge }
-        ensures room { KeepsRoom self.old self.new }
+        ensures spare { self.old.spare ≤ self.new.spare + 1 }
+        ensures capacity { self.new.capacity ≡ self.old.capacity }
     {
         self.note(Some(Entry::Tick { by: 1 }));
         self.tick_steps += 1;

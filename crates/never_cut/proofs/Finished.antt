@@ -11,7 +11,7 @@ use Rattle.never_cut.specs.declared.model.Model.{Model}
 use Rattle.never_cut.specs.declared.scan_model.ScanModel.{ScanModel}
 use Rattle.never_cut.specs.declared.thread_model.ThreadModel.{ThreadModel}
 use Rattle.never_cut.specs.State.{thread_of}
-use Rattle.never_cut.specs.Entries.{Readings, Legal, effect, IsCalm, pushed, fed_by, next_event}
+use Rattle.never_cut.specs.Entries.{Readings, Legal, effect, IsCalm, ArePassed, pushed, fed_by, next_event}
 use Rattle.never_cut.specs.Journal.{after, IsLegal, moved, MayNote}
 use Rattle.never_cut.specs.Sound.{IsSound}
 use Rattle.never_cut.specs.Actors.{Follows}
@@ -35,9 +35,12 @@ alone_finished program next t others u v known there here other = is_alone u kno
     is_alone : (u : ℕ) → u < length program.threads → (thread_of next u).finished ≡ true → u ≡ t
     is_alone u known here = elim (cases_eq u t) [ inl e ↦ e | inr apart ↦ absurd (let clash : true ≡ false = sym here ∙ others u known apart in cc) ]
 
+-- what a scan allows, where there is one
+abbrev Allowed : (ScanModel → Type 0) → Option ScanModel → Type 0
+Allowed P o = elim o [ None ↦ ⊥ | Some scan ↦ P scan ]
+
 -- a scan that is there began with nothing finished
-calm_in : (program : Program) (m : Model) (P : ScanModel → Type 0) (o : Option ScanModel) → m.scan ≡ o → ForSome m.scan (λ scan. IsCalm program m) →
-    (elim o [ None ↦ ⊥ | Some scan ↦ P scan ]) → IsCalm program m
+calm_in : (program : Program) (m : Model) (P : ScanModel → Type 0) (o : Option ScanModel) → m.scan ≡ o → ForSome m.scan (λ scan. IsCalm program m) → Allowed P o → IsCalm program m
 calm_in program m P None is calm there = absurd there
 calm_in program m P (Some scan) is calm there = calm scan is
 
@@ -59,7 +62,7 @@ one_step program readings m (Tick by) accepted sound legal one = one
 one_step program readings m Scan accepted sound legal one = one
 one_step program readings m (Look t) accepted sound legal one = one
 one_step program readings m (Commit t) accepted sound legal one =
-    let calm : IsCalm program m = calm_in program m _ m.scan refl sound.calm legal.1.0 in
+    let calm : IsCalm program m = calm_in program m (λ scan. ArePassed program m scan t.0) m.scan refl sound.calm legal.1.0 in
     alone_finished program (effect program readings m (Commit t)) t.0
     (λ u known apart. ap (λ (x : ThreadModel). x.finished) (commit-other program t.0 u m apart) ∙ calm u known)
 one_step program readings m (Release t) accepted sound legal one =

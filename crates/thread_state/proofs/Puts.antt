@@ -71,8 +71,8 @@ copies t word value (suc n) m block c d (Storing k v) clean e some =
     let b : Buffer = record { commit = c; dirty = d; copying = Storing k v } in
     let a = copy_access t c (word / 8) (Storing k v) in
     let next = stored t word value n (perform m a) block c d k (k == 7)
-        (λ is. let seven : k ≡ 7 = eqb-true k 7 is in omega arith)
-        (λ is. let ne : k ≡ 7 → ⊥ = eqb-false k 7 is in copies t word value n (perform m a) block c d (Loading (k + 1)) clean (omega arith) (omega arith)) in
+    (λ is. let seven : k ≡ 7 = eqb-true k 7 is in omega arith)
+    (λ is. let ne : k ≡ 7 → ⊥ = eqb-false k 7 is in copies t word value n (perform m a) block c d (Loading (k + 1)) clean (omega arith) (omega arith)) in
     subst (λ z. Copies t m (under block c d (word / 8) (Storing k v)) (suc n) (bit_or d (2 ^ (word / 8))) z) (sym (copy_first t word value n m b clean))
     (record { buffer = next.buffer; calls = λ rest can. (refl, next.calls rest can); memory = next.memory; registers = next.registers })
 

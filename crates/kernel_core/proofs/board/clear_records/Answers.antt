@@ -1,15 +1,17 @@
-use Rattle.std.proofs.Common.{◌≡◌, ◌+◌, ◌++◌, List, length, map, take, drop, get_or, set, refl, sym, ap, ◌∙◌, subst, arith}
+use Rattle.std.proofs.Common.{◌≡◌, length, map, drop, set, refl, ap, ◌∙◌, arith}
 use Rattle.std.proofs.lemmas.List.{take_at}
+use Rattle.std.proofs.lemmas.List.Edits.{map_over_more}
 use Rattle.kernel_core.specs.kept.Recorded.{Recorded, emptied}
-use Rattle.kernel_core.specs.kept.Cores.{none_recorded}
-use Rattle.kernel_core.proofs.Mapped.{mapped_more, mapped_all}
+use Rattle.kernel_core.proofs.Mapped.{mapped_all}
 use Rattle.kernel_core.proofs.board.clear_records.Goals as goal
 
 pub loop-charge-init : goal.loop-charge-init
 loop-charge-init c = refl
 
 pub loop-charge-preserved : goal.loop-charge-preserved
-loop-charge-preserved c = ?
+loop-charge-preserved c =
+    ap (λ (z : Recorded). set c.loop-charge.charge-items c.loop-charge.charge-index z) c.clear.ensures
+    ∙ map_over_more emptied c.deref_mut-charge-items.result.now c.loop-charge.charge-items c.loop-charge.charge-index _ c.loop-charge-test.true c.loop-charge.invariant ?
 
 pub returns : goal.returns
 returns c =

@@ -33,7 +33,7 @@ invariant_of-self c = (
       (c.note_tick.ensures.charge ∙ ap (λ (z : Recorded). with_tick z.charge)
       (at_hand _ _ _ _ _ _ c.self.invariant.1 (subst (λ (z : View). 0 < z.board.begun) (sym c.self.view_is) c.requires.begun) c.index_mut.result.now c.index_mut.ensures.value))
       (subst (λ (z : Recorded). KeepsRoom z c.note_tick.new.self)
-      (at_hand _ _ _ _ _ _ c.self.invariant.1 (subst (λ (z : View). 0 < z.board.begun) (sym c.self.view_is) c.requires.begun) c.index_mut.result.now c.index_mut.ensures.value) c.note_tick.ensures.room),
+      (at_hand _ _ _ _ _ _ c.self.invariant.1 (subst (λ (z : View). 0 < z.board.begun) (sym c.self.view_is) c.requires.begun) c.index_mut.result.now c.index_mut.ensures.value) (record { spare = c.note_tick.ensures.spare; capacity = c.note_tick.ensures.capacity })),
 )
 
 pub returns-clause-board : goal.returns-clause-board

@@ -1,6 +1,5 @@
 -- The fields are those of a core before its first charge.
-use Rattle.std.proofs.Common.{ℕ, List, length, sym, ap, ◌∙◌, subst}
-use Rattle.job_parts.specs.Job.{JobParts}
+use Rattle.std.proofs.Common.{length, ap, ◌∙◌}
 use Rattle.kernel_core.specs.Board.{first_board}
 use Rattle.kernel_core.specs.Core.{View, setup_of}
 use Rattle.kernel_core.proofs.Again.{core_again, board_again}

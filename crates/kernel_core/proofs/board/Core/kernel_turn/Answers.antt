@@ -48,7 +48,7 @@ invariant_of-self c = (
       (c.note_kernel.ensures.charge ∙ ap (λ (z : Recorded). with_kernel c.entry_of_point-entry.result z.charge)
       (at_hand _ _ _ _ _ _ c.self.invariant.1 (subst (λ (z : View). 0 < z.board.begun) (sym c.self.view_is) c.requires.begun) c.index_mut.result.now c.index_mut.ensures.value))
       (subst (λ (z : Recorded). KeepsRoom z c.note_kernel.new.self)
-      (at_hand _ _ _ _ _ _ c.self.invariant.1 (subst (λ (z : View). 0 < z.board.begun) (sym c.self.view_is) c.requires.begun) c.index_mut.result.now c.index_mut.ensures.value) c.note_kernel.ensures.room),
+      (at_hand _ _ _ _ _ _ c.self.invariant.1 (subst (λ (z : View). 0 < z.board.begun) (sym c.self.view_is) c.requires.begun) c.index_mut.result.now c.index_mut.ensures.value) (record { spare = c.note_kernel.ensures.spare; capacity = c.note_kernel.ensures.capacity })),
 )
 
 pub returns-clause-board : goal.returns-clause-board
