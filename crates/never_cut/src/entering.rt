@@ -1,6 +1,7 @@
 //! One entry of an open replay.
 
 ghost use Rattle.std.specs.Prelude.{◌≡◌, IfOk};
+ghost use Rattle.prog_check.specs.Accepted.{IsAccepted};
 ghost use Rattle.never_cut.specs.Replay.{TellsEntry};
 ghost use Rattle.never_cut.specs.Replaying.{model_of};
 ghost use Rattle.never_cut.specs.Within.{AreReadings, HasRoom};
@@ -11,6 +12,7 @@ use ink_base::{Entry, NoMemory};
 use prog_check::Accepted;
 use sqlite_items::Items;
 use std::alloc::Global;
+use task_isa::Program;
 
 impl Replaying {
     /// Enters the next entry: `Made` where it is legal, and then its effect is made; else `Illegal`, and nothing changes. There is room
@@ -27,7 +29,22 @@ impl Replaying {
         requires room { HasRoom program.now (model_of self.old) }
         ensures { IfOk result (TellsEntry program.now readings.now (model_of self.old) entry (model_of self.new)) }
     {
-        let program = program.program();
+        self.step(alloc, program.program(), readings, entry)
+    }
+
+    // The same of a program that is known to be accepted.
+    pub(crate) fn step(
+        &mut self,
+        alloc: Global,
+        program: &Program,
+        readings: &[Items<u32>],
+        entry: Entry,
+    ) -> Result<Entered, NoMemory>
+        requires accepted { IsAccepted program.now }
+        requires readings { AreReadings program.now readings.now }
+        requires room { HasRoom program.now (model_of self.old) }
+        ensures { IfOk result (TellsEntry program.now readings.now (model_of self.old) entry (model_of self.new)) }
+    {
         if !self.may(program, readings, entry) {
             return Ok(Entered::Illegal);
         }

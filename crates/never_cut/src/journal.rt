@@ -93,9 +93,10 @@ fn replay_on(
     ensures stamps { IfOk result (λ _. StampsByCommits program.now readings.now (model_of first) entries.now) }
     ensures illegal { IfErr result (TellsIllegal program.now readings.now (model_of first) entries.now) }
 {
+    let program = program.program();
     let mut state = first;
     for (n, entry) in entries.iter().enumerate() {
-        match state.enter(alloc, program, readings, *entry)? {
+        match state.step(alloc, program, readings, *entry)? {
             Entered::Made => {}
             Entered::Illegal => return Err(ReplayFault::Illegal(n as u32)),
         }
