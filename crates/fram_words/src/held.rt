@@ -131,7 +131,8 @@ pub fn src_word(accepted: u32, next: u32) -> u64
 #[inline(always)]
 pub fn read_src(word: u64) -> Src
     ensures numbers { result ≡ held.src_of word }
-    ensures back { (accepted next : ℕ) → accepted < 2 ^ 32 → word ≡ held.src_word accepted next → result ≡ record { accepted = accepted; next = next } }
+    ensures back { (accepted next : ℕ) → accepted < 2 ^ 32 → word ≡ held.src_word accepted next
+        → result ≡ record { accepted = accepted; next = next } }
 {
     Src {
         accepted: (word % (1 << 32)) as u32,
