@@ -1,3 +1,4 @@
 pub mod Frames
 pub mod Addresses
 pub mod Accesses
+pub mod ReadBack

@@ -4,3 +4,5 @@ pub mod Changes
 pub mod Words
 pub mod Accesses
 pub mod Steps
+pub mod Header
+pub mod Held

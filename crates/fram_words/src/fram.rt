@@ -34,6 +34,13 @@ impl Fram {
         Ok(Fram { words: all })
     }
 
+    /// Every word becomes 0. It takes no memory.
+    pub fn clear(&mut self)
+        ensures { self.new ≡ zeros (length self.old) }
+    {
+        self.words.fill(0);
+    }
+
     /// Makes the access, and answers the word that stood there.
     pub fn perform(&mut self, access: Access) -> u64
         requires within { address_of access < length self.old }
@@ -63,12 +70,11 @@ impl Fram {
         }
     }
 
-    /// The word at an address.
+    /// The word at an address; 0 beyond the last one.
     pub fn word(&self, addr: u32) -> u64
-        requires { addr < length self.now }
         ensures { result ≡ slice_index self.now addr }
     {
-        self.words[addr as usize]
+        self.words.get(addr as usize).copied().unwrap_or(0)
     }
 
     /// The number of words.

@@ -1,21 +1,10 @@
 //! The answers of calls that didn't do all that they were asked.
 
-use std::alloc::AllocError;
 use thiserror::Error;
 
 /// One call of a source or a sink failed. It took or appended nothing.
 #[derive(Clone, Copy, Drop)]
 pub struct Failed;
-
-/// The memory that a call asked for was refused.
-#[derive(Clone, Copy, Debug, Drop)]
-pub struct NoMemory;
-
-impl From<AllocError> for NoMemory {
-    fn from(_refused: AllocError) -> NoMemory {
-        NoMemory
-    }
-}
 
 /// A text wasn't written whole: a call of its sink failed.
 #[derive(Clone, Copy, Debug, Drop, Error)]

@@ -14,7 +14,8 @@ mod sure;
 mod unread;
 mod whole;
 
-pub use answers::{Failed, NoMemory, ReadAnswer, WriteFault};
+pub use answers::{Failed, ReadAnswer, WriteFault};
+pub use ink_base::NoMemory;
 pub use memory::{MemSink, MemSource};
 pub use sink::Sink;
 pub use source::Source;

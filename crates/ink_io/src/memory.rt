@@ -7,11 +7,12 @@ ghost use Rattle.ink_io.specs.Counts.{HasCause, CountsOk};
 ghost use Rattle.ink_io.specs.Bytes.{TakesSome};
 ghost use Rattle.ink_io.specs.Memory.{MemorySource, MemorySink, no_calls, fails_next, read_count, after_read, write_count, write_fails, after_write};
 
-use crate::answers::{Failed, NoMemory};
+use crate::answers::Failed;
 use crate::calls::Calls;
 use crate::sink::Sink;
 use crate::source::Source;
 use crate::unread::Unread;
+use ink_base::NoMemory;
 use std::alloc::Global;
 use std::marker::Model;
 

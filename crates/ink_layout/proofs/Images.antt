@@ -11,12 +11,14 @@ use Rattle.fram_words.specs.declared.access.Access.TheVariants as fram
 use Rattle.fram_words.specs.declared.layout.Layout.{Layout}
 use Rattle.fram_words.specs.Words.{performed, zeros}
 use Rattle.fram_words.specs.Places.{Place, Code, Commit, Page, Log, Ring, Tail, Slot, Ack, Clock, Src, store}
+use Rattle.fram_words.specs.Header as header
+use Rattle.fram_words.specs.Held.{due_word}
 use Rattle.fram_words.specs.Shape.{is_valid, address, memory_of}
 use Rattle.fram_words.proofs.Addresses.{store_word}
 use Rattle.ink_layout.specs.Shape.{shape_of, words_of, IsOnBoard}
 use Rattle.ink_layout.specs.Addresses.{layout_address}
 use Rattle.ink_layout.specs.Layouts.{IsLayout}
-use Rattle.ink_layout.specs.Image.{first_due, timed_word, first_memory, Holds, IsFirstImage}
+use Rattle.ink_layout.specs.Image.{timed_word, first_memory, Holds, IsFirstImage}
 use Rattle.ink_layout.specs.Stages.{code_until, with_blocks, put_word}
 use Rattle.ink_layout.proofs.Bounds.{few_words}
 use Rattle.ink_layout.proofs.Regions.{valid, below}
@@ -93,35 +95,37 @@ holds_put program layout words after f g p addr v word is h on e stored value sa
 
 -- the two words of a timer
 timed_here : (j thread due period u w other : ℕ) → 26 ≤ w → (w - 26) / 2 ≡ j →
-    cond ((u == thread) && (w == 26 + 2 * j + 1)) period (cond ((u == thread) && (w == 26 + 2 * j)) due (cond (nat_le 26 w && (nat_lt j j && (thread == u))) other 0))
+    cond ((u == thread) && (w == header.period j)) period (cond ((u == thread) && (w == header.due j)) due (cond (nat_le 26 w && (nat_lt j j && (thread == u))) other 0))
     ≡ cond (nat_le 26 w && (nat_lt j (j + 1) && (thread == u))) (cond (w % 2 == 0) due period) 0
 timed_here j thread due period u w other high here = grind (arith, nat_tests)
 
 -- one more timer
-pub timed_next : (program : Program) (j t due period u w : ℕ) → t ≡ (timer_def program j).thread.0 → due ≡ first_due (timer_def program j).due → period ≡ (timer_def program j).period →
-    put_word (put_word (timed_word program j) t (26 + 2 * j) due) t (26 + 2 * j + 1) period u w ≡ timed_word program (j + 1) u w
+pub timed_next : (program : Program) (j t due period u w : ℕ) → t ≡ (timer_def program j).thread.0 → due ≡ due_word (timer_def program j).due → period ≡ (timer_def program j).period →
+    put_word (put_word (timed_word program j) t (header.due j) due) t (header.period j) period u w ≡ timed_word program (j + 1) u w
 timed_next program j t due period u w t_is due_is period_is =
     elim (cases_lt w 26) [
       | inl low ↦ grind (arith, nat_tests)
       | inr high ↦ elim (cases_eq ((w - 26) / 2) j) [
-        | inl here ↦ rw (here, t_is, due_is, period_is) (timed_here j (timer_def program j).thread.0 (first_due (timer_def program j).due) (timer_def program j).period u w _ high here)
+        | inl here ↦ rw (here, t_is, due_is, period_is) (timed_here j (timer_def program j).thread.0 (due_word (timer_def program j).due) (timer_def program j).period u w _ high here)
         | inr there ↦ grind (arith, nat_tests)
       ]
     ]
 
-pub blocks_next : (program : Program) (j t due period : ℕ) → t ≡ (timer_def program j).thread.0 → due ≡ first_due (timer_def program j).due → period ≡ (timer_def program j).period →
+pub blocks_next : (program : Program) (j t due_at period_at due period : ℕ) → due_at ≡ header.due j → period_at ≡ header.period j →
+    t ≡ (timer_def program j).thread.0 → due ≡ due_word (timer_def program j).due → period ≡ (timer_def program j).period →
     (q : Place) → IsOnBoard program q →
-    with_blocks program (put_word (put_word (timed_word program j) t (26 + 2 * j) due) t (26 + 2 * j + 1) period) q ≡ with_blocks program (timed_word program (j + 1)) q
-blocks_next program j t due period t_is due_is period_is (Page u p b k) h = timed_next program j t due period u (8 * p + k) t_is due_is period_is
-blocks_next program j t due period t_is due_is period_is (Code y m) h = refl
-blocks_next program j t due period t_is due_is period_is (Commit u) h = refl
-blocks_next program j t due period t_is due_is period_is (Log u k) h = refl
-blocks_next program j t due period t_is due_is period_is (Ring u k) h = refl
-blocks_next program j t due period t_is due_is period_is (Tail u) h = refl
-blocks_next program j t due period t_is due_is period_is (Slot u k) h = refl
-blocks_next program j t due period t_is due_is period_is (Ack i) h = refl
-blocks_next program j t due period t_is due_is period_is Clock h = refl
-blocks_next program j t due period t_is due_is period_is (Src i) h = refl
+    with_blocks program (put_word (put_word (timed_word program j) t due_at due) t period_at period) q ≡ with_blocks program (timed_word program (j + 1)) q
+blocks_next program j t due_at period_at due period first second t_is due_is period_is (Page u p b k) h =
+    rw (first, second) (timed_next program j t due period u (8 * p + k) t_is due_is period_is)
+blocks_next program j t due_at period_at due period first second t_is due_is period_is (Code y m) h = refl
+blocks_next program j t due_at period_at due period first second t_is due_is period_is (Commit u) h = refl
+blocks_next program j t due_at period_at due period first second t_is due_is period_is (Log u k) h = refl
+blocks_next program j t due_at period_at due period first second t_is due_is period_is (Ring u k) h = refl
+blocks_next program j t due_at period_at due period first second t_is due_is period_is (Tail u) h = refl
+blocks_next program j t due_at period_at due period first second t_is due_is period_is (Slot u k) h = refl
+blocks_next program j t due_at period_at due period first second t_is due_is period_is (Ack i) h = refl
+blocks_next program j t due_at period_at due period first second t_is due_is period_is Clock h = refl
+blocks_next program j t due_at period_at due period first second t_is due_is period_is (Src i) h = refl
 
 -- once all timers are written
 pub holds_first : (program : Program) (words : List ℕ) → Holds program words (with_blocks program (timed_word program (length program.timers))) → IsFirstImage program words

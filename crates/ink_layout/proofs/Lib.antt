@@ -5,3 +5,4 @@ pub mod Layouts
 pub mod Stages
 pub mod Images
 pub mod Below
+pub mod PlacesApart

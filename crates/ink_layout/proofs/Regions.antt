@@ -205,14 +205,28 @@ module _ (program : Program) where
       let room : offset p < get_or rs r 0 = room_of p h in
       elim (cases_lt r (length rs)) [ inl lt ↦ lt | inr past ↦ absurd (let e = get_or_past rs r 0 past in omega arith) ]
 
-  pub below : (p : Place) → IsOnBoard program p → address (shape_of program) p < words_of (shape_of program)
+  -- a place has a lower address than every word of the regions behind its own
+  pub earlier : (p : Place) (n : ℕ) → IsOnBoard program p → region (shape_of program) p < n → address (shape_of program) p < words_before (regions (shape_of program)) n
   unfolding address
-  below p h =
+  earlier p n h lt =
       let rs : List ℕ = regions (shape_of program) in
       let r : ℕ = region (shape_of program) p in
       let room : offset p < get_or rs r 0 = room_of p h in
-      let inside : r < length rs = region_there p h in
-      let k : suc r + (length rs - suc r) ≡ length rs = omega arith in
-      let f : words_before rs (suc r) ≤ words_before rs (suc r + (length rs - suc r)) = before_further rs (suc r) (length rs - suc r) in
-      let g : words_before rs (suc r) ≤ words_before rs (length rs) = rw k at f in
+      let k : suc r + (n - suc r) ≡ n = omega arith in
+      let f : words_before rs (suc r) ≤ words_before rs (suc r + (n - suc r)) = before_further rs (suc r) (n - suc r) in
+      let g : words_before rs (suc r) ≤ words_before rs n = rw k at f in
       omega (arith, before_next rs r)
+
+  -- and none of those before it has a higher one
+  pub later : (p : Place) (n : ℕ) → n ≤ region (shape_of program) p → words_before (regions (shape_of program)) n ≤ address (shape_of program) p
+  unfolding address
+  later p n le =
+      let rs : List ℕ = regions (shape_of program) in
+      let r : ℕ = region (shape_of program) p in
+      let k : n + (r - n) ≡ r = omega arith in
+      let f : words_before rs n ≤ words_before rs (n + (r - n)) = before_further rs n (r - n) in
+      let g : words_before rs n ≤ words_before rs r = rw k at f in
+      omega arith
+
+  pub below : (p : Place) → IsOnBoard program p → address (shape_of program) p < words_of (shape_of program)
+  below p h = earlier p (length (regions (shape_of program))) h (region_there p h)

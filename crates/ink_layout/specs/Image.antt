@@ -1,18 +1,15 @@
 -- The first image of a board: its words before the first charge.
-use Rattle.std.specs.Prelude.{◌≡◌, ℕ, ◌+◌, ◌-◌, ◌*◌, ◌/◌, ◌%◌, ◌==◌, ◌&&◌, nat_lt, nat_le, if◌then◌else◌, Bool, List, length, Option, Some, None}
+use Rattle.std.specs.Prelude.{◌≡◌, ℕ, ◌+◌, ◌-◌, ◌*◌, ◌/◌, ◌%◌, ◌==◌, ◌&&◌, nat_lt, nat_le, if◌then◌else◌, Bool, List, length}
 use Rattle.task_isa.specs.declared.program.Program.{Program}
 use Rattle.task_isa.specs.declared.program.TimerDef.{TimerDef}
 use Rattle.task_isa.specs.Code.{word_of_instr}
 use Rattle.prog_check.specs.Lookup.{timer_def, task_def, instr_at}
 use Rattle.push_core.specs.Slots.{empty_word}
 use Rattle.fram_words.specs.Places.{Place, Code, Page, Slot}
+use Rattle.fram_words.specs.Header as header
+use Rattle.fram_words.specs.Held.{due_word}
 use Rattle.fram_words.specs.Shape.{memory_of}
 use Rattle.ink_layout.specs.Shape.{shape_of, words_of, IsOnBoard}
-
--- 0 for off, else the tick at which a timer is first due, plus 1
-abbrev pub first_due : Option ℕ → ℕ
-first_due None = 0
-first_due (Some due) = due + 1
 
 -- a timer is one of the first so many, and of the thread
 abbrev pub is_timer_of : Program → ℕ → ℕ → ℕ → Bool
@@ -20,12 +17,12 @@ is_timer_of program count t j = nat_lt j count && ((timer_def program j).thread.
 
 -- a timer's word, or its period
 abbrev pub timer_word : TimerDef → Bool → ℕ
-timer_word timer is_due = if is_due then first_due timer.due else timer.period
+timer_word timer is_due = if is_due then due_word timer.due else timer.period
 
--- a word of a thread's block, with the first so many timers: timer j has words 26 + 2j and 27 + 2j of its thread, and all others are zero
+-- a word of a thread's block, with the first so many timers: a timer has two words in the block of its thread, and all others are zero
 abbrev pub timed_word : Program → ℕ → ℕ → ℕ → ℕ
 timed_word program count t w =
-    if nat_le 26 w && is_timer_of program count t ((w - 26) / 2) then timer_word (timer_def program ((w - 26) / 2)) (w % 2 == 0) else 0
+    if nat_le (header.due 0) w && is_timer_of program count t ((w - header.due 0) / 2) then timer_word (timer_def program ((w - header.due 0) / 2)) (w % 2 == 0) else 0
 
 -- the code, the empty slots, and the timers' starting words in both copies of each page; all else is zero
 abbrev pub first_memory : Program → Place → ℕ

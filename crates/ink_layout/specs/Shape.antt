@@ -6,14 +6,16 @@ use Rattle.task_isa.specs.declared.program.Task.{Task}
 use Rattle.task_isa.specs.declared.program.Program.{Program}
 use Rattle.prog_check.specs.Lookup.{thread_def, pipe_def, task_def}
 use Rattle.fram_words.specs.Places.{Place, Code, Commit, Page, Log, Ring, Tail, Slot, Ack, Clock, Src}
+use Rattle.fram_words.specs.Header as header
 use Rattle.fram_words.specs.Shape.{Shape, ThreadShape, regions, words_before}
 
--- the header has 48 words, and a page eight
+-- the state stands behind the header
 abbrev pub block_words : ThreadDef → ℕ
-block_words thread = 48 + thread.state
+block_words thread = header.words + thread.state
 
+-- a page has eight words; header and state have pages of their own
 abbrev pub pages_of : ThreadDef → ℕ
-pages_of thread = 6 + (thread.state + 7) / 8
+pages_of thread = header.words / 8 + (thread.state + 7) / 8
 
 abbrev pub thread_shape : ThreadDef → ThreadShape
 thread_shape thread = record { pages = pages_of thread; log = thread.log }

@@ -4,12 +4,14 @@ ghost use Rattle.std.specs.Prelude.{◌≡◌, ℕ, ◌+◌, ◌*◌, ◌/◌, �
 ghost use Rattle.prog_check.specs.Accepted.{IsAccepted};
 ghost use Rattle.prog_check.specs.Lookup.{thread_def, task_def};
 ghost use Rattle.fram_words.specs.Places.{Place, Code, Slot, Page, store};
-ghost use Rattle.ink_layout.specs.Image.{Holds, IsFirstImage, timed_word, first_due};
+ghost use Rattle.fram_words.specs.Header as header;
+ghost use Rattle.fram_words.specs.Held as held;
+ghost use Rattle.ink_layout.specs.Image.{Holds, IsFirstImage, timed_word};
 ghost use Rattle.ink_layout.specs.Layouts.{IsLayout};
 ghost use Rattle.ink_layout.specs.Shape.{IsOnBoard, shape_of, words_of};
 ghost use Rattle.ink_layout.specs.Stages.{code_until, slots_until, with_blocks, put_word};
 
-use fram_words::{Access, Fram, Layout};
+use fram_words::{Access, Fram, Header, Layout, due_word};
 use ink_base::{NoMemory, ThreadId};
 use prog_check::Accepted;
 use push_core::empty;
@@ -22,12 +24,22 @@ pub fn first_image(alloc: Global, program: &Accepted, layout: &Layout) -> Result
     requires { IsLayout program.now layout.now }
     ensures { IfOk result (λ fram. IsFirstImage program.now fram) }
 {
-    let program = program.program();
     let mut fram = Fram::new(alloc, layout.words)?;
-    store_code(&mut fram, program, layout);
-    empty_queues(&mut fram, program, layout);
-    start_timers(&mut fram, program, layout);
+    write_first_image(&mut fram, program, layout);
     Ok(fram)
+}
+
+/// Writes those words over the words of the program's board. It takes no memory.
+pub fn write_first_image(fram: &mut Fram, program: &Accepted, layout: &Layout)
+    requires layout { IsLayout program.now layout.now }
+    requires count { length fram.old ≡ words_of (shape_of program.now) }
+    ensures { IsFirstImage program.now fram.new }
+{
+    let program = program.program();
+    fram.clear();
+    store_code(fram, program, layout);
+    empty_queues(fram, program, layout);
+    start_timers(fram, program, layout);
 }
 
 fn store_code(fram: &mut Fram, program: &Program, layout: &Layout)
@@ -134,19 +146,20 @@ fn start_timer(fram: &mut Fram, program: &Program, layout: &Layout, j: usize)
     ensures { Holds program.now fram.new (with_blocks program.now (timed_word program.now (j + 1))) }
 {
     let timer = &program.timers.as_slice()[j];
-    let (thread, due, period) = (timer.thread, due_word(timer.due), timer.period as u64);
-    let word = 26 + 2 * j as u32;
-    put_both(fram, program, layout, thread, word, due);
-    put_both(fram, program, layout, thread, word + 1, period);
+    let (thread, due, period) = (timer.thread, first_due(timer.due), timer.period as u64);
+    let due_at = Header::Due(j as u32).word();
+    let period_at = Header::Period(j as u32).word();
+    put_both(fram, program, layout, thread, due_at, due);
+    put_both(fram, program, layout, thread, period_at, period);
 }
 
-// 0 for off, else the tick at which a timer is first due, plus 1.
-fn due_word(due: Option<u32>) -> u64
-    ensures { result ≡ first_due due }
+// The word of a timer before the first charge.
+fn first_due(due: Option<u32>) -> u64
+    ensures { result ≡ held.due_word due }
 {
     match due {
-        Some(tick) => tick as u64 + 1,
-        None => 0,
+        Some(tick) => due_word(Some(tick as u64)),
+        None => due_word(None),
     }
 }
 
@@ -162,7 +175,7 @@ fn put_both(
     requires accepted { IsAccepted program.now }
     requires layout { IsLayout program.now layout.now }
     requires known { thread.0 < length program.now.threads }
-    requires within { word < 48 }
+    requires within { word < header.words }
     requires count { length fram.old ≡ words_of (shape_of program.now) }
     ensures stored { (block : ℕ → ℕ → ℕ) → Holds program.now fram.old (with_blocks program.now block) → Holds program.now fram.new (with_blocks program.now (put_word block thread.0 word value)) }
     ensures count { length fram.new ≡ words_of (shape_of program.now) }
@@ -183,7 +196,7 @@ fn put_copy(
     requires accepted { IsAccepted program.now }
     requires layout { IsLayout program.now layout.now }
     requires known { thread.0 < length program.now.threads }
-    requires within { word < 48 }
+    requires within { word < header.words }
     requires two { copy < 2 }
     requires count { length fram.old ≡ words_of (shape_of program.now) }
     ensures stored { (memory : Place → ℕ) → Holds program.now fram.old memory → Holds program.now fram.new (store memory (Page thread.0 (word / 8) copy (word % 8)) value) }

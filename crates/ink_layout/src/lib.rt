@@ -12,7 +12,7 @@ mod slots;
 mod starts;
 
 pub use fram_words::{Layout, QueuePlace, ThreadPlace};
-pub use image::first_image;
+pub use image::{first_image, write_first_image};
 pub use kernel_point::KernelPoint;
 pub use making::make_layout;
 pub use pick::Pick;

@@ -3,9 +3,10 @@
 ghost use Rattle.std.specs.Prelude.{◌≡◌, ◌+◌, ◌*◌, ◌<◌, ◌≤◌, length, slice_index, IfOk};
 ghost use Rattle.prog_check.specs.Accepted.{IsAccepted};
 ghost use Rattle.ink_layout.specs.Layouts.{IsLayout, IsMadeOf, IsPart, AreThreadPlaces, AreQueuePlaces, sources_from};
+ghost use Rattle.ink_layout.specs.Apart.{LieApart, LieWithin, AreDivided};
 
 use crate::starts::{region_lengths, starts_of};
-use fram_words::{Layout, QueuePlace, ThreadPlace};
+use fram_words::{Header, Layout, QueuePlace, ThreadPlace};
 use ink_base::{Addr, NoMemory};
 use prog_check::Accepted;
 use sqlite_items::Items;
@@ -18,8 +19,12 @@ use task_isa::{Program, ThreadDef};
 pub fn make_layout(alloc: Global, program: &Accepted) -> Result<Layout, NoMemory>
     ensures layout { IfOk result (λ layout. IsLayout program.now layout) }
     ensures few { IfOk result (λ layout. layout.words < 100000) }
+    ensures apart { IfOk result (λ layout. LieApart program.now layout) }
+    ensures within { IfOk result (λ layout. LieWithin program.now layout) }
+    ensures divided { IfOk result (λ layout. AreDivided program.now layout) }
 {
-    layout_of(alloc, program.program())
+    let layout = layout_of(alloc, program.program())?;
+    Ok(layout)
 }
 
 fn layout_of(alloc: Global, program: &Program) -> Result<Layout, NoMemory>
@@ -79,7 +84,7 @@ fn thread_places(
         places.push(ThreadPlace {
             commit: starts[at],
             first: starts[at + 1],
-            words: 48 + thread.state as u32,
+            words: Header::WORDS + thread.state as u32,
             log: starts[at + 2],
         })?;
     }

@@ -6,6 +6,7 @@ ghost use Rattle.prog_check.specs.Accepted.{IsAccepted};
 ghost use Rattle.ink_layout.specs.Layouts.{AreStarts};
 ghost use Rattle.ink_layout.specs.Shape.{shape_of, task_words, thread_shape, pipe_words, queue_words, AreShort};
 
+use fram_words::Header;
 use ink_base::{Addr, NoMemory};
 use std::alloc::Global;
 use task_isa::{PipeDef, Program, Task, ThreadDef};
@@ -57,7 +58,7 @@ fn add_blocks(lengths: &mut Vec<u32>, threads: &[ThreadDef]) -> Result<(), NoMem
     ensures { OnOk result (lengths.new.items ≡ lengths.old.items ++ thread_regions (map thread_shape threads.now)) }
 {
     for thread in threads {
-        let pages = 6 + (thread.state as u32 + 7) / 8;
+        let pages = Header::WORDS / 8 + (thread.state as u32 + 7) / 8;
         lengths.push(1)?;
         lengths.push(16 * pages)?;
         lengths.push(thread.log as u32)?;

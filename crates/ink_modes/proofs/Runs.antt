@@ -16,7 +16,6 @@ use Rattle.never_cut.proofs.Settled.{readings_in_order}
 use Rattle.never_cut.proofs.Served.{sound_turns, each_event_once}
 use Rattle.never_cut.proofs.ThreadStates.{states_by_commits}
 use Rattle.never_cut.proofs.Stamped.{stamps_by_commits}
-use Rattle.task_run.specs.Knows.{HasCode}
 use Rattle.kernel_core.specs.declared.run_record.RunRecord.{RunRecord}
 use Rattle.kernel_core.specs.declared.charge_record.ChargeRecord.{ChargeRecord}
 use Rattle.kernel_core.specs.Board.{journal}
@@ -27,15 +26,15 @@ use Rattle.kernel_core.proofs.Growth.{run_grows, run_few, run_legal, run_journal
 use Rattle.kernel_core.proofs.Scanned.{run_scanned}
 use Rattle.ink_modes.specs.Run.{board_run, entries_of, journal_in, IsRunOf}
 
-module _ (job : JobParts) (first : List ℕ) (r : RunRecord) (is : IsJob job) (code : HasCode job.program) (image : IsFirstImage job.program first) (charges : r.charges ≡ (board_run job first).charges) where
+module _ (job : JobParts) (first : List ℕ) (r : RunRecord) (is : IsJob job) (image : IsFirstImage job.program first) (charges : r.charges ≡ (board_run job first).charges) where
   journal_same : journal_in r ≡ journal (board_run job first)
   journal_same = ap (λ (l : List ChargeRecord). flat_map entries_of l) charges ∙ sym (run_journal (setup_of job) first job.charges)
 
   legal_in : IsLegal job.program job.readings (open_model job.program) (journal_in r)
-  legal_in = subst (λ (l : List Entry). IsLegal job.program job.readings (open_model job.program) l) (sym journal_same) (run_legal job first is code image)
+  legal_in = subst (λ (l : List Entry). IsLegal job.program job.readings (open_model job.program) l) (sym journal_same) (run_legal job first is image)
 
   start : CanStart job.program job.readings (open_model job.program)
-  start = (job_setup job is code).start
+  start = (job_setup job is).start
 
   pub run_of : r.job ≡ job → r.words ≡ (board_run job first).words → IsRunOf job r
   run_of same words = record {
@@ -44,10 +43,10 @@ module _ (job : JobParts) (first : List ℕ) (r : RunRecord) (is : IsJob job) (c
     image = image;
     charges = charges;
     words = words;
-    stands = λ n. job_prefixes_stand job first is code image n;
-    grows = λ n. let g = run_grows job first is code image n in (g.0, journal_same ∙ g.1);
+    stands = λ n. job_prefixes_stand job first is image n;
+    grows = λ n. let g = run_grows job first is image n in (g.0, journal_same ∙ g.1);
     legal = legal_in;
-    few = subst (λ (l : List Entry). length l < 2 ^ 32) (sym journal_same) (run_few job first is code image);
+    few = subst (λ (l : List Entry). length l < 2 ^ 32) (sym journal_same) (run_few job first is image);
     in_order = readings_in_order job.program job.readings (open_model job.program) (journal_in r) start.sound.shape.sources legal_in;
     each_once = each_event_once job.program job.readings (open_model job.program) (journal_in r) (sound_turns job.program job.readings (open_model job.program) start.sound) legal_in;
     states = states_by_commits job.program job.readings (open_model job.program) (journal_in r) start.sound.shape.threads;

@@ -8,7 +8,7 @@ use Rattle.never_cut.specs.Journal.{after, IsLegal}
 use Rattle.never_cut.specs.Laws.{ReadingsInOrder, EachEventOnce, StatesByCommits, StampsByCommits}
 use Rattle.kernel_core.specs.declared.run_record.RunRecord.{RunRecord}
 use Rattle.kernel_core.specs.Board.{Board, journal}
-use Rattle.kernel_core.specs.Holds.{BoardStands}
+use Rattle.kernel_core.specs.Stands.{BoardStands}
 use Rattle.kernel_core.specs.Listed.{run, run_first}
 use Rattle.kernel_core.specs.Core.{setup_of}
 use Rattle.kernel_core.specs.Scanned.{ChargesAreScanned}

@@ -12,9 +12,9 @@ use std::marker::Model;
 /// 65,535 readings, and the 1 to 4,096 charges list turns of the board's own actors, at most 4,194,304 in all.
 #[derive(Drop)]
 pub struct Job {
-    accepted: Accepted,
-    readings: Items<Items<u32>>,
-    charges: Items<Charge>,
+    pub accepted: Accepted,
+    pub readings: Items<Items<u32>>,
+    pub charges: Items<Charge>,
 }
 
 impl Model for Job {

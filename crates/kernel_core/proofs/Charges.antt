@@ -5,7 +5,7 @@ use Rattle.ink_base.specs.declared.entry.Entry.{Entry}
 use Rattle.never_cut.specs.Journal.{noted}
 use Rattle.kernel_core.specs.Record.{ChargeRecord, journal_of, charge_of, not_begun}
 use Rattle.kernel_core.specs.Board.{Setup, Board, journal, charged}
-use Rattle.kernel_core.specs.Holds.{HasSize}
+use Rattle.kernel_core.specs.kept.Holds.{HasSize}
 
 noted-behind : (xs ys : List Entry) (o : Option Entry) → xs ++ noted ys o ≡ noted (xs ++ ys) o
 noted-behind xs ys None = refl

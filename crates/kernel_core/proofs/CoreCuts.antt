@@ -1,5 +1,5 @@
 -- A cut on the fields of a core.
-use Rattle.std.proofs.Common.{◌≡◌, ◌≢◌, inl, inr, ℕ, zero, suc, ◌+◌, ◌-◌, ◌<◌, ◌≤◌, ◌^◌, List, [], ◌∷◌, ◌++◌, length, map, take, replicate, drop, get_or, set, slice_index, refl, sym, ap, ◌∙◌, subst, arith, get_or-set_same, get_or-set_other}
+use Rattle.std.proofs.Common.{◌≡◌, ◌≢◌, inl, inr, ℕ, zero, suc, ◌+◌, ◌-◌, ◌<◌, ◌≤◌, ◌^◌, List, [], ◌∷◌, length, map, replicate, get_or, set, slice_index, refl, sym, ap, ◌∙◌, subst, arith, get_or-set_same, get_or-set_other}
 use Rattle.std.proofs.lemmas.Bool.{cases_eq, cases_lt}
 use Rattle.std.proofs.lemmas.List.{length-map, get_or_read, get_or_past, get_or-replicate, length-replicate}
 use Rattle.fram_words.specs.Places as places
@@ -13,12 +13,13 @@ use Rattle.job_parts.specs.Job.{JobParts}
 use Rattle.kernel_core.specs.declared.kernel.Kernel.{Kernel}
 use Rattle.kernel_core.specs.Kernel.{first_kernel}
 use Rattle.kernel_core.specs.Record.{ChargeRecord, charge_of, not_begun, begun}
-use Rattle.kernel_core.specs.Recorded.{Recorded}
+use Rattle.kernel_core.specs.kept.Recorded.{Recorded, KeepsRoom}
 use Rattle.never_cut.specs.Within.{Lasts}
 use Rattle.never_cut.proofs.Lasting.{lasts_less}
 use Rattle.kernel_core.specs.Board.{Board, shape, cut}
-use Rattle.kernel_core.specs.Holds.{state}
-use Rattle.kernel_core.specs.Core.{IsCore, AreRecords, CanCount, StaysInRange, setup_of, charge_in, row_in, rebooted, none_recorded, no_pusher, turns_in, turns_from}
+use Rattle.kernel_core.specs.Stands.{state}
+use Rattle.kernel_core.specs.Core.{setup_of, turns_in}
+use Rattle.kernel_core.specs.kept.Cores.{IsCore, AreRecords, CanCount, StaysInRange, charge_in, row_in, rebooted, none_recorded, no_pusher, turns_from}
 use Rattle.kernel_core.proofs.CoreJobs.{turns_split}
 use Rattle.kernel_core.proofs.Turns.{Goes}
 use Rattle.kernel_core.proofs.Cuts.{cut_goes, cut_lasts}
@@ -32,30 +33,6 @@ ports_kept : (ps : List Pusher) (i : ℕ) → (get_or (map rebooted ps) i no_pus
 ports_kept [] i = refl
 ports_kept (p ∷ ps) zero = refl
 ports_kept (p ∷ ps) (suc i) = ports_kept ps i
-
--- the machines while they lose their rows one after another
-pub lost_more : (xs : List Pusher) (i : ℕ) → i < length xs →
-    set (map rebooted (take i xs) ++ drop i xs) i (rebooted (get_or (map rebooted (take i xs) ++ drop i xs) i no_pusher)) ≡ map rebooted (take (i + 1) xs) ++ drop (i + 1) xs
-lost_more xs i lt = let e : suc i ≡ i + 1 = omega arith in subst (λ n. set (map rebooted (take i xs) ++ drop i xs) i (rebooted (get_or (map rebooted (take i xs) ++ drop i xs) i no_pusher)) ≡ map rebooted (take n xs) ++ drop n xs) e (one_more xs i lt)
-  where
-    one_more : (xs : List Pusher) (i : ℕ) → i < length xs →
-        set (map rebooted (take i xs) ++ drop i xs) i (rebooted (get_or (map rebooted (take i xs) ++ drop i xs) i no_pusher)) ≡ map rebooted (take (suc i) xs) ++ drop (suc i) xs
-    one_more [] i lt = absurd (omega arith)
-    one_more (x ∷ xs) zero lt = refl
-    one_more (x ∷ xs) (suc i) lt = ap (λ l. rebooted x ∷ l) (one_more xs i (omega arith))
-
-pub lost_all : (xs : List Pusher) (i : ℕ) → length xs ≤ i → map rebooted (take i xs) ++ drop i xs ≡ map rebooted xs
-lost_all [] zero le = refl
-lost_all [] (suc i) le = refl
-lost_all (x ∷ xs) zero le = absurd (omega arith)
-lost_all (x ∷ xs) (suc i) le = ap (λ l. rebooted x ∷ l) (lost_all xs i (omega arith))
-
-pub taken_back : (n : ℕ) (xs ys : List Pusher) → n ≡ length xs → take n (xs ++ ys) ≡ xs
-taken_back n xs ys e = ap (λ k. take k (xs ++ ys)) e ∙ back xs ys
-  where
-    back : (xs ys : List Pusher) → take (length xs) (xs ++ ys) ≡ xs
-    back [] ys = refl
-    back (x ∷ xs) ys = ap (λ l. x ∷ l) (back xs ys)
 
 pub nothing_counted : (n i : ℕ) → slice_index (replicate n 0) i ≡ 0
 nothing_counted n i =
@@ -120,7 +97,7 @@ module _ (job : JobParts) (l : Layout) (b : Board) (room : ℕ) (ps : List Pushe
   begun_charge : (x : Recorded) → x.charge ≡ begun off (get_or records b.begun none_recorded).charge → x.charge ≡ begun off (not_begun (length job.program.sources))
   begun_charge x counts = counts ∙ ap (λ z. begun off z) (h.records_are.unused b.begun (omega arith) more)
 
-  records_after : (x : Recorded) → x.charge ≡ begun off (get_or records b.begun none_recorded).charge → (get_or records b.begun none_recorded).spare ≤ x.spare + 1 → AreRecords job (b.begun + 1) (turns_in job b.begun) (set records b.begun x)
+  records_after : (x : Recorded) → x.charge ≡ begun off (get_or records b.begun none_recorded).charge → KeepsRoom (get_or records b.begun none_recorded) x → AreRecords job (b.begun + 1) (turns_in job b.begun) (set records b.begun x)
   records_after x counts spare =
       let r = h.records_are in
       let few : turns_in job b.begun < 2 ^ 32 = let split = turns_split job b.begun more in let e = h.range.turns in omega arith in
@@ -131,8 +108,14 @@ module _ (job : JobParts) (l : Layout) (b : Board) (room : ℕ) (ps : List Pushe
             (subst (λ z. CanCount (turns_in job b.begun) z) (sym (begun_charge x counts))
             (record { kernel = omega arith; sources = λ i. let none = nothing_counted (length job.program.sources) i in omega arith; ticks = omega arith })));
         has_room = subst (λ n. turns_in job b.begun ≤ (get_or (set records b.begun x) n none_recorded).spare) (sym index)
-            (subst (λ (z : Recorded). turns_in job b.begun ≤ z.spare) (sym here) (let e = r.later b.begun (omega arith) more in omega arith));
+            (subst (λ (z : Recorded). turns_in job b.begun ≤ z.spare) (sym here) (let e = r.later b.begun (omega arith) more in let taken = spare.spare in omega arith));
         later = λ k le known. subst (λ (z : Recorded). turns_in job k < z.spare) (sym (elsewhere k (λ e. absurd (omega arith)))) (r.later k (omega arith) known);
+        whole = λ k known. elim (cases_eq k b.begun) [
+          | inl e ↦ subst (λ n. turns_in job n < (get_or (set records b.begun x) n none_recorded).capacity) (sym e)
+              (subst (λ (z : Recorded). turns_in job b.begun < z.capacity) (sym here)
+              (let w = r.whole b.begun more in let same = spare.capacity in omega arith))
+          | inr ne ↦ subst (λ (z : Recorded). turns_in job k < z.capacity) (sym (elsewhere k ne)) (r.whole k known)
+        ];
         unused = λ k le known. ap (λ (z : Recorded). z.charge) (elsewhere k (λ e. absurd (omega arith))) ∙ r.unused k (omega arith) known;
         steps = λ k known. elim (cases_eq k b.begun) [
           | inl e ↦ ap (λ n. length (get_or (set records b.begun x) n none_recorded).charge.source_steps) e
@@ -147,7 +130,7 @@ module _ (job : JobParts) (l : Layout) (b : Board) (room : ℕ) (ps : List Pushe
       elsewhere : (k : ℕ) → k ≢ b.begun → get_or (set records b.begun x) k none_recorded ≡ get_or records k none_recorded
       elsewhere k ne = get_or-set_other records b.begun k x none_recorded ne
 
-  pub cut_core : (words : List ℕ) (x : Recorded) → words ≡ performed (fram.Add l.clock off) b.words → x.charge ≡ begun off (get_or records b.begun none_recorded).charge → (get_or records b.begun none_recorded).spare ≤ x.spare + 1 →
+  pub cut_core : (words : List ℕ) (x : Recorded) → words ≡ performed (fram.Add l.clock off) b.words → x.charge ≡ begun off (get_or records b.begun none_recorded).charge → KeepsRoom (get_or records b.begun none_recorded) x →
       IsCore job l (After words x) (turns_in job b.begun) (map rebooted ps) (set records b.begun x)
   cut_core words x made counts spare =
       let go = subst (λ z. Goes (setup_of job) (length job.charges) b z off) (sym (cut_is words x made counts)) (cut_goes (setup_of job) (length job.charges) b off h.is_setup h.holds more clock_room) in
@@ -174,7 +157,7 @@ module _ (job : JobParts) (l : Layout) (b : Board) (room : ℕ) (ps : List Pushe
   board_of words k qs x made kernel lost counts = made_is words k qs x kernel lost ∙ cut_is words x made counts
 
   pub core_of : (words : List ℕ) (k : Kernel) (qs : List Pusher) (x : Recorded) (turns : ℕ) → words ≡ performed (fram.Add l.clock off) b.words → k ≡ first_kernel → qs ≡ map rebooted ps →
-      x.charge ≡ begun off (get_or records b.begun none_recorded).charge → (get_or records b.begun none_recorded).spare ≤ x.spare + 1 → turns ≡ turns_in job b.begun →
+      x.charge ≡ begun off (get_or records b.begun none_recorded).charge → KeepsRoom (get_or records b.begun none_recorded) x → turns ≡ turns_in job b.begun →
       IsCore job l (Made words k qs x) turns qs (set records b.begun x)
   core_of words k qs x turns made kernel lost counts spare count =
       let all = cut_core words x made counts spare in

@@ -4,7 +4,8 @@ use Rattle.std.proofs.lemmas.List.{get_or_read}
 use Rattle.std.proofs.lemmas.List.Sums.{sum_by-take-drop, sum_by-drop_more}
 use Rattle.job_parts.specs.declared.charge.Charge.{Charge}
 use Rattle.job_parts.specs.Job.{JobParts, IsJob, item_turns, charge_turns}
-use Rattle.kernel_core.specs.Core.{no_charge, turns_in, turns_from}
+use Rattle.kernel_core.specs.Core.{no_charge, turns_in}
+use Rattle.kernel_core.specs.kept.Cores.{turns_from}
 
 -- no more turns stand in the charges from one on than in all
 pub turns_few : (job : JobParts) (k : ℕ) → IsJob job → turns_from job k ≤ 4194304

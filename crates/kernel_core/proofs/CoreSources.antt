@@ -23,12 +23,13 @@ use Rattle.source_laws.specs.Rows.{access, port_of}
 use Rattle.source_laws.proofs.Ports.{access_of-port}
 use Rattle.source_laws.proofs.Fits.{row_fits, answer_fits}
 use Rattle.kernel_core.specs.Record.{ChargeRecord, with_source}
-use Rattle.kernel_core.specs.Recorded.{Recorded}
+use Rattle.kernel_core.specs.kept.Recorded.{Recorded, KeepsRoom}
 use Rattle.kernel_core.specs.Board.{Setup, Board, shape, sides, finds, charged, row_of, source_access, source_made, source_turn, entry_of_source}
 use Rattle.kernel_core.specs.Views.{seen}
-use Rattle.kernel_core.specs.Holds.{memory, state}
+use Rattle.kernel_core.specs.Stands.{memory, state}
 use Rattle.kernel_core.specs.Made.{access_made}
-use Rattle.kernel_core.specs.Core.{IsCore, IsPusher, CanCount, setup_of, charge_in, row_in, none_recorded, no_pusher}
+use Rattle.kernel_core.specs.Core.{setup_of}
+use Rattle.kernel_core.specs.kept.Cores.{IsCore, IsPusher, CanCount, charge_in, row_in, none_recorded, no_pusher}
 use Rattle.kernel_core.proofs.Sides.{within}
 use Rattle.kernel_core.proofs.SourcePlaces.{source_on}
 use Rattle.kernel_core.proofs.Turns.{Goes, source_goes}
@@ -168,7 +169,7 @@ module _ (job : JobParts) (l : Layout) (b : Board) (room : ℕ) (ps : List Pushe
 
     pub source_made_core : (p : Pusher) (words : List ℕ) (point : Point) (o : Option Entry) (x : Recorded) → 0 < b.begun → 0 < room → IsLeft (length (readings_of job.readings i)) (row_of b i) → words ≡ performed a b.words →
         p.port ≡ q.port → p.row ≡ take_of q.port (length (readings_of job.readings i)) q.row w → point ≡ point_of q.port.queue.places q.row.stage w → o ≡ entry_of_source i point →
-        x.charge ≡ with_source i o (get_or records (b.begun - 1) none_recorded).charge → (get_or records (b.begun - 1) none_recorded).spare ≤ x.spare + 1 →
+        x.charge ≡ with_source i o (get_or records (b.begun - 1) none_recorded).charge → KeepsRoom (get_or records (b.begun - 1) none_recorded) x →
         IsCore job l (After words p x) (room - 1) (set ps i p) (set records (b.begun - 1) x)
     source_made_core p words point o x begun some left made port taken pointed noted counts spare =
         let long : length b.rows ≡ length ps = ap length h.rows ∙ length-map ps row_in in

@@ -32,11 +32,13 @@ use Rattle.kernel_core.specs.declared.kernel.Kernel.TheVariants as kernels
 use Rattle.kernel_core.specs.Kernel.{wants, takes, point_found}
 use Rattle.kernel_core.specs.Fits.{CanWant, CanTake}
 use Rattle.kernel_core.specs.Record.{ChargeRecord, charge_of, with_kernel, with_tick}
-use Rattle.kernel_core.specs.Recorded.{Recorded}
+use Rattle.kernel_core.specs.kept.Recorded.{Recorded, KeepsRoom}
 use Rattle.kernel_core.specs.Board.{Setup, Board, shape, finds, charged, kernel_access, kernel_turn, clock_turn, turn}
-use Rattle.kernel_core.specs.Holds.{Holds, BoardStands, memory, state}
+use Rattle.kernel_core.specs.Stands.{BoardStands, memory, state}
+use Rattle.kernel_core.specs.kept.Holds.{Holds}
 use Rattle.kernel_core.specs.Made.{kernel_made, clock_made}
-use Rattle.kernel_core.specs.Core.{IsCore, IsPusher, AreRecords, CanCount, StaysInRange, setup_of, charge_in, row_in, none_recorded, no_pusher, turns_in, turns_from}
+use Rattle.kernel_core.specs.Core.{setup_of, turns_in}
+use Rattle.kernel_core.specs.kept.Cores.{IsCore, IsPusher, AreRecords, CanCount, StaysInRange, charge_in, row_in, none_recorded, no_pusher, turns_from}
 use Rattle.kernel_core.proofs.Turns.{Goes, kernel_goes, background_of}
 use Rattle.kernel_core.proofs.Cuts.{clock_goes}
 use Rattle.kernel_core.proofs.KernelPlaces.{kernel_on}
@@ -94,9 +96,9 @@ module _ (job : JobParts) (l : Layout) (b : Board) (room : ℕ) (ps : List Pushe
   ranges : 0 < room → (k : Kernel) → b.kernel ≡ k → CanWant job.program k × CanTake job.program k (answer (memory (setup_of job) b) (wants job.program k))
   ranges some k is =
       let bg = background_of (setup_of job) (length job.charges) b h.is_setup h.holds in
-      by_kernel k (subst (λ z. Rattle.kernel_core.specs.Holds.KernelHolds job.program (memory (setup_of job) b) (state (setup_of job) b) z) is h.holds.registers) bg
+      by_kernel k (subst (λ z. Rattle.kernel_core.specs.kept.Holds.KernelHolds job.program (memory (setup_of job) b) (state (setup_of job) b) z) is h.holds.registers) bg
     where
-      by_kernel : (k : Kernel) → Rattle.kernel_core.specs.Holds.KernelHolds job.program (memory (setup_of job) b) (state (setup_of job) b) k →
+      by_kernel : (k : Kernel) → Rattle.kernel_core.specs.kept.Holds.KernelHolds job.program (memory (setup_of job) b) (state (setup_of job) b) k →
           Rattle.never_cut.specs.Steps.Background job.program job.readings (memory (setup_of job) b) (state (setup_of job) b) →
           CanWant job.program k × CanTake job.program k (answer (memory (setup_of job) b) (wants job.program k))
       by_kernel (kernels.Boot boot) r bg =
@@ -161,7 +163,7 @@ module _ (job : JobParts) (l : Layout) (b : Board) (room : ℕ) (ps : List Pushe
   records_count = sym (ap length h.charges ∙ length-map records charge_in) ∙ h.holds.size.charges_count
 
   -- the records after a turn that changes the one at hand
-  pub records_after : (x : Recorded) → 0 < b.begun → 0 < room → CanCount (room - 1) x.charge → (get_or records (b.begun - 1) none_recorded).spare ≤ x.spare + 1 →
+  pub records_after : (x : Recorded) → 0 < b.begun → 0 < room → CanCount (room - 1) x.charge → KeepsRoom (get_or records (b.begun - 1) none_recorded) x →
       length x.charge.source_steps ≡ length (get_or records (b.begun - 1) none_recorded).charge.source_steps →
       AreRecords job b.begun (room - 1) (set records (b.begun - 1) x)
   records_after x begun some can spare steps =
@@ -170,8 +172,14 @@ module _ (job : JobParts) (l : Layout) (b : Board) (room : ℕ) (ps : List Pushe
       let here : get_or (set records (b.begun - 1) x) (b.begun - 1) none_recorded ≡ x = get_or-set_same records (b.begun - 1) x none_recorded lt in
       record {
         counts = subst (λ (z : Recorded). CanCount (room - 1) z.charge) (sym here) can;
-        has_room = subst (λ (z : Recorded). room - 1 ≤ z.spare) (sym here) (let e = r.has_room in omega arith);
+        has_room = subst (λ (z : Recorded). room - 1 ≤ z.spare) (sym here) (let e = r.has_room in let taken = spare.spare in omega arith);
         later = λ k le known. subst (λ (z : Recorded). turns_in job k < z.spare) (sym (elsewhere k (λ e. absurd (omega arith)))) (r.later k le known);
+        whole = λ k known. elim (cases_eq k (b.begun - 1)) [
+          | inl e ↦ subst (λ n. turns_in job n < (get_or (set records (b.begun - 1) x) n none_recorded).capacity) (sym e)
+              (subst (λ (z : Recorded). turns_in job (b.begun - 1) < z.capacity) (sym here)
+              (let w = r.whole (b.begun - 1) (let c = records_count in omega arith) in let same = spare.capacity in omega arith))
+          | inr ne ↦ subst (λ (z : Recorded). turns_in job k < z.capacity) (sym (elsewhere k ne)) (r.whole k known)
+        ];
         unused = λ k le known. ap (λ (z : Recorded). z.charge) (elsewhere k (λ e. absurd (omega arith))) ∙ r.unused k le known;
         steps = λ k known. elim (cases_eq k (b.begun - 1)) [
           | inl e ↦ ap (λ n. length (get_or (set records (b.begun - 1) x) n none_recorded).charge.source_steps) e
@@ -195,7 +203,7 @@ module _ (job : JobParts) (l : Layout) (b : Board) (room : ℕ) (ps : List Pushe
 
   -- the core after a turn that leaves the rows
   pub core_after : (next made : Board) (qs : List Pusher) (x : Recorded) → next ≡ made → Goes (setup_of job) (length job.charges) b made 1 → next.rows ≡ map row_in qs → next.charges ≡ map charge_in (set records (b.begun - 1) x) → next.begun ≡ b.begun →
-      ((i : ℕ) → i < length job.program.sources → IsPusher (setup_of job) i (get_or qs i no_pusher)) → 0 < b.begun → 0 < room → CanCount (room - 1) x.charge → (get_or records (b.begun - 1) none_recorded).spare ≤ x.spare + 1 →
+      ((i : ℕ) → i < length job.program.sources → IsPusher (setup_of job) i (get_or qs i no_pusher)) → 0 < b.begun → 0 < room → CanCount (room - 1) x.charge → KeepsRoom (get_or records (b.begun - 1) none_recorded) x →
       length x.charge.source_steps ≡ length (get_or records (b.begun - 1) none_recorded).charge.source_steps → IsCore job l next (room - 1) qs (set records (b.begun - 1) x)
   core_after next made qs x is go rows charges begun_is machines begun some can spare steps =
       let goes = subst (λ z. Goes (setup_of job) (length job.charges) b z 1) (sym is) go in
@@ -212,7 +220,7 @@ module _ (job : JobParts) (l : Layout) (b : Board) (room : ℕ) (ps : List Pushe
 
   pub kernel_turn_core : (a : Access) (w : ℕ) (words : List ℕ) (k : Kernel) (o : Option Entry) (x : Recorded) → 0 < b.begun → 0 < room →
       a ≡ at_layout l (wants job.program b.kernel) → w ≡ slice_index b.words (address_of a) → words ≡ performed a b.words → k ≡ takes job.program b.kernel w →
-      o ≡ entry_of_point (point_found job.program b.kernel w) → x.charge ≡ with_kernel o (get_or records (b.begun - 1) none_recorded).charge → (get_or records (b.begun - 1) none_recorded).spare ≤ x.spare + 1 →
+      o ≡ entry_of_point (point_found job.program b.kernel w) → x.charge ≡ with_kernel o (get_or records (b.begun - 1) none_recorded).charge → KeepsRoom (get_or records (b.begun - 1) none_recorded) x →
       IsCore job l (After words k x) (room - 1) ps (set records (b.begun - 1) x)
   kernel_turn_core a w words k o x begun some is found made taken noted counts spare =
       core_after (After words k x) (kernel_turn (setup_of job) b) ps x (kernel_turn_is a w some is found words k o x made taken noted counts)
@@ -247,7 +255,7 @@ module _ (job : JobParts) (l : Layout) (b : Board) (room : ℕ) (ps : List Pushe
   }
 
   pub clock_turn_core : (words : List ℕ) (x : Recorded) → 0 < b.begun → 0 < room → words ≡ performed (fram.Add l.clock 1) b.words → x.charge ≡ with_tick (get_or records (b.begun - 1) none_recorded).charge →
-      (get_or records (b.begun - 1) none_recorded).spare ≤ x.spare + 1 →
+      KeepsRoom (get_or records (b.begun - 1) none_recorded) x →
       IsCore job l (record { words = words; kernel = b.kernel; rows = b.rows; charges = map charge_in (set records (b.begun - 1) x); begun = b.begun }) (room - 1) ps (set records (b.begun - 1) x)
   clock_turn_core words x begun some made counts spare =
       core_after (record { words = words; kernel = b.kernel; rows = b.rows; charges = map charge_in (set records (b.begun - 1) x); begun = b.begun }) (clock_turn (setup_of job) b) ps x (clock_turn_is words x made counts)

@@ -28,7 +28,9 @@ use Rattle.kernel_core.specs.Kernel.{first_kernel}
 use Rattle.kernel_core.specs.Record.{ChargeRecord, charge_of, journal_of, begun, with_tick}
 use Rattle.kernel_core.specs.Board.{Setup, Board, shape, sides, journal, clock_access, clock_turn, cut, row_of}
 use Rattle.kernel_core.specs.Views.{seen}
-use Rattle.kernel_core.specs.Holds.{IsSetup, memory, state, KernelHolds, HasSize, Holds}
+use Rattle.kernel_core.specs.First.{IsSetup}
+use Rattle.kernel_core.specs.Stands.{memory, state}
+use Rattle.kernel_core.specs.kept.Holds.{KernelHolds, HasSize, Holds}
 use Rattle.kernel_core.proofs.Sides.{within, shared_of}
 use Rattle.kernel_core.proofs.Quiet.{quiet, perform_other}
 use Rattle.kernel_core.proofs.Charges.{noted_last, fresh, others_stay, charged_journal, charged_later}

@@ -8,6 +8,7 @@ use Rattle.fram_words.specs.Places.{Place, Tail, Slot, Ack, Clock, Src}
 use Rattle.fram_words.specs.Shape.{memory_of, region, offset, has_indices}
 use Rattle.task_isa.specs.declared.program.Program.{Program}
 use Rattle.task_isa.specs.declared.program.ThreadDef.{ThreadDef}
+use Rattle.prog_check.specs.Accepted.{IsAccepted}
 use Rattle.prog_check.specs.Lookup.{thread_def, no_thread_def}
 use Rattle.ink_layout.specs.Shape.{shape_of, thread_shape, task_words, pipe_words, queue_words}
 use Rattle.ink_layout.proofs.Regions.{in_rest}
@@ -22,15 +23,19 @@ use Rattle.never_cut.proofs.FirstImages.{false_second, nothing_at, first_private
 use Rattle.never_cut.specs.declared.model.Model.{Model}
 use Rattle.never_cut.specs.Stands.{StandsPrivate}
 use Rattle.never_cut.specs.Start.{CanStart}
+use Rattle.never_cut.specs.Within.{AreShort}
 use Rattle.never_cut.proofs.Lasting.{lasts_less, open_lasts}
 use Rattle.never_cut.proofs.Starts.{open_starts}
+use Rattle.never_cut.proofs.Finished.{one_after}
 use Rattle.reboot.proofs.Boots.{boot_begins}
 use Rattle.kernel_core.specs.Record.{ChargeRecord, not_begun, charge_of}
-use Rattle.kernel_core.specs.Board.{Setup, Board, shape, sides, row_of, moved_by, first_board}
+use Rattle.kernel_core.specs.Board.{Setup, Board, shape, sides, row_of, journal, moved_by, first_board}
 use Rattle.kernel_core.specs.Views.{seen}
-use Rattle.kernel_core.specs.Holds.{IsSetup, StandsFirst, memory, HasSize, Holds}
-use Rattle.kernel_core.specs.Moves.{ticks, turns, IsInRange, EveryPrefixStands, ImagePrefixesStand}
-use Rattle.kernel_core.proofs.Sides.{within, shared_of}
+use Rattle.kernel_core.specs.First.{IsSetup, StandsFirst}
+use Rattle.kernel_core.specs.Stands.{memory}
+use Rattle.kernel_core.specs.kept.Holds.{HasSize, Holds}
+use Rattle.kernel_core.specs.Moves.{ticks, turns, IsInRange, EveryPrefixStands, ImagePrefixesStand, OneIsFinished}
+use Rattle.kernel_core.proofs.Sides.{within_limits, shared_of}
 use Rattle.kernel_core.proofs.Cuts.{first_rows}
 use Rattle.kernel_core.proofs.Runs.{moves_hold, moves_taken, ticks_taken, turns_taken}
 use Rattle.kernel_core.proofs.Standing.{board_stands}
@@ -101,13 +106,13 @@ first_sides s words image = record {
 }
 
 -- the first image stands for the first state
-pub first_stands : (s : Setup) (words : List ℕ) → IsSetup s → s.first ≡ open_model s.program → IsFirstImage s.program words → StandsFirst s words
-first_stands s words g is image = record {
+pub first_stands : (s : Setup) (words : List ℕ) → IsAccepted s.program → AreShort s.readings → s.first ≡ open_model s.program → IsFirstImage s.program words → StandsFirst s words
+first_stands s words accepted short is image = record {
   count = image.count;
-  private = subst (λ m. StandsPrivate (memory_of (shape s) words) s.program m) (sym is) (first_private s.program words g.accepted image);
+  private = subst (λ m. StandsPrivate (memory_of (shape s) words) s.program m) (sym is) (first_private s.program words accepted image);
   clock = subst (λ (m : Model). memory_of (shape s) words Clock ≡ m.clock) (sym is) (image.each Clock tt);
   sources = subst (λ m. IsStart (sides s) (seen (memory_of (shape s) words) m (λ i. first_row))) (sym is)
-      (start_first (sides s) (seen (memory_of (shape s) words) (open_model s.program) (λ i. first_row)) (within s g) (first_sides s words image));
+      (start_first (sides s) (seen (memory_of (shape s) words) (open_model s.program) (λ i. first_row)) (within_limits s accepted short) (first_sides s words image));
 }
 
 first_size : (s : Setup) (words : List ℕ) (charges : ℕ) → StandsFirst s words → HasSize s charges (first_board s words charges)
@@ -166,10 +171,15 @@ pub image_prefixes : ImagePrefixesStand
 image_prefixes s words charges moves b are short few n =
     let g : IsSetup s = record {
       accepted = b.accepted;
-      code = b.code;
       short = b.short;
       start = subst (λ m. CanStart s.program s.readings m) (sym b.first) (open_starts s.program s.readings b.accepted b.short.few);
     } in
     let range : IsInRange s.first (ticks moves) (turns moves) = subst (λ m. IsInRange m (ticks moves) (turns moves)) (sym b.first)
     (record { clock = omega arith; counts = open_lasts s.program (turns moves) (omega arith) }) in
-    every_prefix s words charges moves g (first_stands s words g b.first b.image) are range n
+    every_prefix s words charges moves g (first_stands s words b.accepted b.short b.first b.image) are range n
+
+-- no journal makes a second finished event
+pub one_is_finished : OneIsFinished
+one_is_finished s words charges moves g stands are range one n =
+    let legal = (every_prefix s words charges moves g stands are range n).legal in
+    one_after s.program s.readings s.first (journal (moved_by s (first_board s words charges) (take n moves))) g.accepted g.short g.start.sound legal one

@@ -17,11 +17,10 @@ use Rattle.never_cut.specs.Entries.{readings_of}
 use Rattle.never_cut.specs.Journal.{noted, IsLegal}
 use Rattle.never_cut.specs.State.{open_model}
 use Rattle.never_cut.proofs.Lasting.{lasts_less}
-use Rattle.task_run.specs.Knows.{HasCode}
 use Rattle.kernel_core.specs.Kernel.{point_found}
 use Rattle.kernel_core.specs.Record.{ChargeRecord, not_begun, with_kernel, with_source, with_tick, journal_of}
 use Rattle.kernel_core.specs.Board.{Setup, Board, Move, Cut, Turn, sides, journal, finds, kernel_access, source_access, source_made, row_of, entry_of_source, turn, cut, move, moved_by, first_board}
-use Rattle.kernel_core.specs.Holds.{HasSize}
+use Rattle.kernel_core.specs.kept.Holds.{HasSize}
 use Rattle.kernel_core.specs.Moves.{AreMoves, turns_of, turns}
 use Rattle.kernel_core.specs.Listed as listed
 use Rattle.kernel_core.specs.Listed.{moves_of, moves, run_first, run}
@@ -29,9 +28,9 @@ use Rattle.kernel_core.specs.Core.{setup_of}
 use Rattle.kernel_core.proofs.Charges.{charged_journal}
 use Rattle.kernel_core.proofs.Cuts.{cut_journal}
 use Rattle.kernel_core.proofs.Runs.{turn_begun, moves_hold, moves_taken, ticks_taken, turns_taken}
-use Rattle.kernel_core.proofs.Firsts.{first_stands, first_holds}
+use Rattle.kernel_core.proofs.Firsts.{first_holds}
 use Rattle.kernel_core.proofs.CoreRuns.{moved_append}
-use Rattle.kernel_core.proofs.JobMoves.{job_moves, job_ticks, job_range, job_setup, job_prefixes_stand, charges_turns}
+use Rattle.kernel_core.proofs.JobMoves.{job_moves, job_ticks, job_range, job_setup, job_first, job_prefixes_stand, charges_turns}
 
 -- the entry that a move notes, or none
 abbrev Notes : Board → Board → Type 0
@@ -152,12 +151,12 @@ pub run_journal : (s : Setup) (words : List ℕ) (charges : List Charge) → jou
 run_journal s words charges =
     ap (λ n. journal_of (run s words charges).charges n) (all_begun s words charges ∙ sym (all_recorded s words charges)) ∙ journal_is (run s words charges).charges
 
-module _ (job : JobParts) (words : List ℕ) (is : IsJob job) (code : HasCode job.program) (image : IsFirstImage job.program words) where
+module _ (job : JobParts) (words : List ℕ) (is : IsJob job) (image : IsFirstImage job.program words) where
   sizes : KeepSize (setup_of job) (length job.charges) (first_board (setup_of job) words (length job.charges)) (moves job.charges)
   sizes n =
-      let g = job_setup job is code in
+      let g = job_setup job is in
       (moves_hold (setup_of job) (length job.charges) (first_board (setup_of job) words (length job.charges)) (take n (moves job.charges)) g
-      (first_holds (setup_of job) words (length job.charges) g (first_stands (setup_of job) words g refl image))
+      (first_holds (setup_of job) words (length job.charges) g (job_first job words is image))
       (moves_taken (setup_of job) (length job.charges) 0 n (moves job.charges) (job_moves job is))
       (record {
         clock = let few = ticks_taken n (moves job.charges) in let all = job_ticks job is in omega arith;
@@ -180,4 +179,4 @@ module _ (job : JobParts) (words : List ℕ) (is : IsJob job) (code : HasCode jo
   run_legal =
       subst (λ l. IsLegal job.program job.readings (open_model job.program) (journal (moved_by (setup_of job) (first_board (setup_of job) words (length job.charges)) l)))
       (take_all (length (moves job.charges)) (moves job.charges) (omega arith))
-      (job_prefixes_stand job words is code image (length (moves job.charges))).legal
+      (job_prefixes_stand job words is image (length (moves job.charges))).legal

@@ -15,9 +15,9 @@ use Rattle.never_cut.specs.State.{open_model}
 use Rattle.never_cut.specs.Within.{AreShort}
 use Rattle.never_cut.proofs.Lasting.{open_lasts}
 use Rattle.never_cut.proofs.Starts.{open_starts}
-use Rattle.task_run.specs.Knows.{HasCode}
 use Rattle.kernel_core.specs.Board.{Setup, Move, Turn}
-use Rattle.kernel_core.specs.Holds.{IsSetup, BoardStands}
+use Rattle.kernel_core.specs.First.{IsSetup, StandsFirst}
+use Rattle.kernel_core.specs.Stands.{BoardStands}
 use Rattle.kernel_core.specs.Listed.{turns_of, moves_of, moves, run_first}
 use Rattle.kernel_core.specs.Moves.{IsActor, AreMoves, ticks, turns, IsInRange}
 use Rattle.kernel_core.specs.Core.{setup_of}
@@ -135,16 +135,20 @@ job_short job is = record {
 }
 
 -- what a job sets up
-pub job_setup : (job : JobParts) → IsJob job → HasCode job.program → IsSetup (setup_of job)
-job_setup job is code = record { accepted = is.accepted; code = code; short = job_short job is; start = open_starts job.program job.readings is.accepted (job_short job is).few }
+pub job_setup : (job : JobParts) → IsJob job → IsSetup (setup_of job)
+job_setup job is = record { accepted = is.accepted; short = job_short job is; start = open_starts job.program job.readings is.accepted (job_short job is).few }
+
+-- the first image stands for the state at which a job's run begins
+pub job_first : (job : JobParts) (words : List ℕ) → IsJob job → IsFirstImage job.program words → StandsFirst (setup_of job) words
+job_first job words is image = first_stands (setup_of job) words is.accepted (job_short job is) refl image
 
 -- clock and counts fit their words to the job's end
 pub job_range : (job : JobParts) → IsJob job → IsInRange (open_model job.program) (ticks (moves job.charges)) (turns (moves job.charges))
 job_range job is = record { clock = let few = job_ticks job is in omega arith; counts = open_lasts job.program (turns (moves job.charges)) (let few = job_turns job is in omega arith) }
 
 -- after every cut and turn that the job lists
-pub job_prefixes_stand : (job : JobParts) (words : List ℕ) → IsJob job → HasCode job.program → IsFirstImage job.program words → (n : ℕ) →
+pub job_prefixes_stand : (job : JobParts) (words : List ℕ) → IsJob job → IsFirstImage job.program words → (n : ℕ) →
     BoardStands (setup_of job) (run_first (setup_of job) words job.charges n)
-job_prefixes_stand job words is code image n =
-    let g = job_setup job is code in
-    every_prefix (setup_of job) words (length job.charges) (moves job.charges) g (first_stands (setup_of job) words g refl image) (job_moves job is) (job_range job is) n
+job_prefixes_stand job words is image n =
+    let g = job_setup job is in
+    every_prefix (setup_of job) words (length job.charges) (moves job.charges) g (job_first job words is image) (job_moves job is) (job_range job is) n

@@ -31,11 +31,12 @@ use Rattle.task_run.specs.declared.phase.Phase.TheVariants as phase
 use Rattle.task_run.specs.declared.machine.TaskMachine.{TaskMachine}
 use Rattle.task_run.specs.Machine.{Put, action, access_of, device, fetch, is_late}
 use Rattle.task_run.specs.Endings.{next_by, total_word}
-use Rattle.task_run.specs.Serving.{Serving}
+use Rattle.task_run.specs.kept.Serving.{Serving}
 use Rattle.task_run.specs.Fits.{FitsPhase}
 use Rattle.task_run.specs.Knows.{KnowsAt}
 use Rattle.kernel_core.specs.Board.{Setup}
-use Rattle.kernel_core.specs.Holds.{IsSetup, KernelHolds}
+use Rattle.kernel_core.specs.First.{IsSetup}
+use Rattle.kernel_core.specs.kept.Holds.{KernelHolds}
 use Rattle.kernel_core.specs.Kernel.{wants}
 use Rattle.kernel_core.specs.declared.kernel.Kernel.{Kernel}
 use Rattle.kernel_core.specs.declared.kernel.Kernel.TheVariants as kernels
@@ -103,8 +104,8 @@ put_on program words t b w v known lt under = by_dirty (is_dirty b (w / 8)) refl
     ]
 
 ready_at : (program : Program) (words : Memory) (m : Model) (r : TaskMachine) (at : Phase) → r.phase ≡ at → Serving program words m r →
-    Rattle.task_run.specs.Serving.IsReady words r.pick.thread.0 r.buffer (action program r at)
-ready_at program words m r at is h = subst (λ p. Rattle.task_run.specs.Serving.IsReady words r.pick.thread.0 r.buffer (action program r p)) is h.ready
+    Rattle.task_run.specs.kept.Serving.IsReady words r.pick.thread.0 r.buffer (action program r at)
+ready_at program words m r at is h = subst (λ p. Rattle.task_run.specs.kept.Serving.IsReady words r.pick.thread.0 r.buffer (action program r p)) is h.ready
 
 task_on : (s : Setup) (words : Memory) (m : Model) (r : TaskMachine) (at : Phase) → r.phase ≡ at → IsSetup s → r.pick.thread.0 < length s.program.threads → FitsPhase s.program r at →
     KnowsAt s.program words m r at → IsOnBoard s.program (place_of (access_of r (action s.program r at)))
@@ -120,7 +121,7 @@ task_on s words m r (phase.WriteDue word) is g known f h =
     put_on s.program words r.pick.thread.0 r.buffer (26 + 2 * device r) word known (omega (arith, f)) (ready_at s.program words m r (phase.WriteDue word) is h)
 task_on s words m r phase.Resume is g known f h = resume_on (is_late s.program r) (ready_at s.program words m r phase.Resume is h)
   where
-    resume_on : (late : Bool) → Rattle.task_run.specs.Serving.IsReady words r.pick.thread.0 r.buffer (if late then Put 1 0 else fetch r) →
+    resume_on : (late : Bool) → Rattle.task_run.specs.kept.Serving.IsReady words r.pick.thread.0 r.buffer (if late then Put 1 0 else fetch r) →
         IsOnBoard s.program (place_of (access_of r (if late then Put 1 0 else fetch r)))
     resume_on true ready = put_on s.program words r.pick.thread.0 r.buffer 1 0 known (omega arith) ready
     resume_on false ready = (f.0.task, f.0.inside)

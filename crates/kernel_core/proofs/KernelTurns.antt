@@ -41,7 +41,8 @@ use Rattle.kernel_core.specs.declared.kernel.Kernel.TheVariants.{Boot, Scan, Tas
 use Rattle.kernel_core.specs.Kernel.{wants, takes, point_found, booted, after_boot, after_scan, after_task, begin_scan}
 use Rattle.kernel_core.specs.Kernel as kernels
 use Rattle.kernel_core.specs.Board.{Setup}
-use Rattle.kernel_core.specs.Holds.{IsSetup, KernelHolds}
+use Rattle.kernel_core.specs.First.{IsSetup}
+use Rattle.kernel_core.specs.kept.Holds.{KernelHolds}
 use Rattle.kernel_core.proofs.KernelSteps.{To}
 use Rattle.kernel_core.proofs.KernelMoves.{boot_move, scan_move, task_move}
 
@@ -143,7 +144,7 @@ kernel_steps s words m rows (Scan stamp machine) g b room h =
           (h.0 ∙ sym (scan_commits s m machine.thread machine.at (answer words (scan_wants s.program machine.thread.0 machine.at)))) keeps.holds;
     }
 kernel_steps s words m rows (Task r) g b room h =
-    let keeps = every_task_commits s.program s.readings words m r g.code b h.0 h.1 in
+    let keeps = every_task_commits s.program s.readings words m r b h.0 h.1 in
     let after = background_after s words m (wants s.program (Task r)) (entry_of_point (Rattle.task_run.specs.Machine.point r)) g b keeps.kept in
     record {
       kept = keeps.kept;

@@ -16,11 +16,13 @@ pub mod Firsts
 pub mod CoreSources
 pub mod CoreSteps
 pub mod Stamps
+pub mod Mapped
 pub mod CoreCuts
 pub mod CoreJobs
 pub mod CoreRuns
 pub mod JobMoves
 pub mod Starts
+pub mod Again
 pub mod Growth
 pub mod Scanned
 pub mod Settling

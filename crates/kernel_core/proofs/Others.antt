@@ -24,7 +24,7 @@ use Rattle.never_cut.specs.State.{thread_of, source_of, no_thread, with_thread, 
 use Rattle.never_cut.specs.Entries.{effect, pushed, next_event, with_accepted, with_refused, with_skipped}
 use Rattle.never_cut.specs.Journal.{moved, MayNote}
 use Rattle.never_cut.specs.Actors.{SamePrivate, IsPrivate, Follows, without_held}
-use Rattle.never_cut.proofs.Threads.{thread_of-with_same, thread_of-with_other}
+use Rattle.never_cut.proofs.Follows.{same_follows, push_follows}
 use Rattle.reboot.proofs.Drifts.{boot_drifts}
 use Rattle.priority_sched.proofs.Drifts.{scan_drifts}
 use Rattle.task_run.proofs.Outlasts.{every_task_outlasts}
@@ -32,7 +32,7 @@ use Rattle.kernel_core.specs.declared.kernel.Kernel.{Kernel}
 use Rattle.kernel_core.specs.declared.kernel.Kernel.TheVariants.{Boot, Scan, Task}
 use Rattle.kernel_core.specs.Board.{Setup, sides, entry_of_source}
 use Rattle.kernel_core.specs.Views.{sides_of}
-use Rattle.kernel_core.specs.Holds.{KernelHolds}
+use Rattle.kernel_core.specs.kept.Holds.{KernelHolds}
 use Rattle.kernel_core.proofs.Sides.{Becomes-queue, Becomes-source}
 use Rattle.kernel_core.proofs.Quiet.{perform_other}
 
@@ -93,45 +93,6 @@ module _ (s : Setup) (m : Model) (i : ℕ) (known : i < length m.sources) (fed :
   point_clock points.Pushed = refl
   point_clock points.Refused = refl
   point_clock points.Skipped = refl
-
--- nothing that the kernel knows of changes
-same_follows : (m next : Model) → next.threads ≡ m.threads → next.pipes ≡ m.pipes → next.timers ≡ m.timers → next.outputs ≡ m.outputs → next.commits ≡ m.commits → next.scan ≡ m.scan →
-    m.clock ≤ next.clock → Follows m next
-same_follows m next threads pipes timers outputs commits scan clock = record {
-  threads = λ t. ap (λ (l : List ThreadModel). without_held (get_or l t no_thread)) threads;
-  more = λ t. [];
-  held = λ t. ap (λ (l : List ThreadModel). (get_or l t no_thread).held) threads ∙ sym (append-nil (thread_of m t).held);
-  count = ap length threads;
-  pipes = pipes;
-  timers = timers;
-  outputs = outputs;
-  commits = commits;
-  scan = scan;
-  clock = clock;
-}
-
-push_follows : (m : Model) (t i : ℕ) (e : Event) (s : Rattle.never_cut.specs.declared.source_model.SourceModel.SourceModel) → t < length m.threads →
-    Follows m (with_source (with_thread m t (pushed e (thread_of m t))) i s)
-push_follows m t i e s lt = record {
-  threads = λ u. elim (cases_eq u t) [
-    | inl is ↦ subst (λ v. without_held (get_or (set m.threads t (pushed e (thread_of m t))) v no_thread) ≡ without_held (thread_of m v)) (sym is)
-        (ap without_held (thread_of-with_same m t (pushed e (thread_of m t)) lt))
-    | inr ne ↦ ap without_held (thread_of-with_other m t u (pushed e (thread_of m t)) ne)
-  ];
-  more = λ u. cond (u == t) (e ∷ []) [];
-  held = λ u. elim (cases_eq u t) [
-    | inl is ↦ rw (eq-eqb u t is) (subst (λ v. (get_or (set m.threads t (pushed e (thread_of m t))) v no_thread).held ≡ (thread_of m v).held ++ e ∷ []) (sym is)
-        (ap (λ (z : ThreadModel). z.held) (thread_of-with_same m t (pushed e (thread_of m t)) lt)))
-    | inr ne ↦ rw (ne_eqb u t ne) (ap (λ (z : ThreadModel). z.held) (thread_of-with_other m t u (pushed e (thread_of m t)) ne) ∙ sym (append-nil (thread_of m u).held))
-  ];
-  count = length-set m.threads t (pushed e (thread_of m t));
-  pipes = refl;
-  timers = refl;
-  outputs = refl;
-  commits = refl;
-  scan = refl;
-  clock = omega arith;
-}
 
 pub point_follows : (s : Setup) (m : Model) (i : ℕ) (p : Point) → source_thread s.program i < length m.threads → Follows m (moved s.program s.readings m (entry_of_source i p))
 point_follows s m i points.Nothing fed = same_follows m m refl refl refl refl refl refl (omega arith)

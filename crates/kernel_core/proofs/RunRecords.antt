@@ -9,10 +9,11 @@ use Rattle.never_cut.specs.State.{open_model}
 use Rattle.never_cut.specs.Journal.{after, IsLegal}
 use Rattle.never_cut.specs.Stands.{Stands}
 use Rattle.kernel_core.specs.Record.{ChargeRecord, charge_of, journal_of}
-use Rattle.kernel_core.specs.Recorded.{Recorded}
+use Rattle.kernel_core.specs.kept.Recorded.{Recorded}
 use Rattle.kernel_core.specs.Board.{Board, journal}
-use Rattle.kernel_core.specs.Holds.{memory}
-use Rattle.kernel_core.specs.Core.{IsCore, setup_of}
+use Rattle.kernel_core.specs.Stands.{memory}
+use Rattle.kernel_core.specs.Core.{setup_of}
+use Rattle.kernel_core.specs.kept.Cores.{IsCore}
 use Rattle.kernel_core.specs.RunRecords.{RecordStands, entries_of}
 use Rattle.kernel_core.proofs.CoreSteps.{stands}
 

@@ -6,7 +6,9 @@ use Rattle.push_core.specs.Table.{is_left}
 use Rattle.never_cut.specs.Entries.{readings_of}
 use Rattle.never_cut.proofs.Lasting.{lasts_less}
 use Rattle.kernel_core.specs.Board.{Setup, Board, Move, Cut, Turn, turn, cut, source_made, row_of, moved_by}
-use Rattle.kernel_core.specs.Holds.{IsSetup, state, Holds}
+use Rattle.kernel_core.specs.First.{IsSetup}
+use Rattle.kernel_core.specs.Stands.{state}
+use Rattle.kernel_core.specs.kept.Holds.{Holds}
 use Rattle.kernel_core.specs.Moves.{IsActor, AreMoves, ticks, turns, IsInRange}
 use Rattle.kernel_core.proofs.Turns.{Goes, kernel_goes, source_goes}
 use Rattle.kernel_core.proofs.Cuts.{clock_goes, cut_goes, cut_lasts}

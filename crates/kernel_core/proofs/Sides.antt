@@ -5,6 +5,8 @@ use Rattle.std.proofs.lemmas.List.{get_or_past, get_or-set_same, get_or-set_othe
 use Rattle.fram_words.specs.Places.{Memory, Clock}
 use Rattle.fram_words.specs.Changes.{Becomes}
 use Rattle.task_isa.specs.declared.program.ThreadDef.{ThreadDef}
+use Rattle.task_isa.specs.declared.program.Program.{Program}
+use Rattle.prog_check.specs.Accepted.{IsAccepted}
 use Rattle.prog_check.specs.Lookup.{thread_def, no_thread_def, source_thread}
 use Rattle.push_core.specs.declared.row.Row.{Row}
 use Rattle.source_laws.specs.Kept.{Kept, IsWithin}
@@ -14,27 +16,31 @@ use Rattle.never_cut.specs.declared.source_model.SourceModel.{SourceModel}
 use Rattle.never_cut.specs.State.{queue_of, source_in, no_thread, no_source}
 use Rattle.never_cut.specs.Sound.{IsSound}
 use Rattle.never_cut.specs.Actors.{StandsForKernel}
+use Rattle.never_cut.specs.Within.{AreShort}
 use Rattle.never_cut.proofs.SoundStates.{published_bound}
 use Rattle.kernel_core.specs.Board.{Setup, sides}
 use Rattle.kernel_core.specs.Views.{seen}
-use Rattle.kernel_core.specs.Holds.{IsSetup}
+use Rattle.kernel_core.specs.First.{IsSetup}
 
 -- a run within its limits is one within those of the sources
-pub within : (s : Setup) → IsSetup s → IsWithin (sides s)
-within s g = record {
-  sources = g.accepted.counts.sources;
-  readings = g.short.few;
-  values = g.short.values;
+pub within_limits : (s : Setup) → IsAccepted s.program → AreShort s.readings → IsWithin (sides s)
+within_limits s accepted short = record {
+  sources = accepted.counts.sources;
+  readings = short.few;
+  values = short.values;
   places = λ i lt. let t = source_thread s.program i in
-      let some = (g.accepted.threads (source_thread s.program i) (g.accepted.sources i lt)).queue_least in
+      let some = (accepted.threads (source_thread s.program i) (accepted.sources i lt)).queue_least in
       omega arith;
   no_more = λ t. elim (cases_lt t (length s.program.threads)) [
-    | inl lt ↦ (g.accepted.threads t lt).queue
+    | inl lt ↦ (accepted.threads t lt).queue
     | inr past ↦
         let none : (thread_def s.program t).queue ≡ 0 = ap (λ (d : ThreadDef). d.queue) (get_or_past s.program.threads t no_thread_def past) in
         omega arith
   ];
 }
+
+pub within : (s : Setup) → IsSetup s → IsWithin (sides s)
+within s g = within_limits s g.accepted g.short
 
 -- one element of a list changes
 pub Becomes-set : {A : Type 0} (xs : List A) (i : ℕ) (x d : A) → i < length xs → Becomes i x (λ j. get_or xs j d) (λ j. get_or (set xs i x) j d)

@@ -13,7 +13,7 @@ use Rattle.ink_layout.specs.Shape.{IsOnBoard}
 use Rattle.never_cut.specs.declared.model.Model.{Model}
 use Rattle.kernel_core.specs.Board.{Setup, sides}
 use Rattle.kernel_core.specs.Views.{seen}
-use Rattle.kernel_core.specs.Holds.{IsSetup}
+use Rattle.kernel_core.specs.First.{IsSetup}
 
 -- the slot to load in the boot is one of the queue
 abbrev IsSlotOf : ℕ → Stage → Type 0

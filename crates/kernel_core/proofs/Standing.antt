@@ -3,7 +3,9 @@ use Rattle.std.proofs.Common.{ℕ}
 use Rattle.source_laws.proofs.Runs.{tells}
 use Rattle.kernel_core.specs.Board.{Setup, Board, sides, row_of}
 use Rattle.kernel_core.specs.Views.{seen}
-use Rattle.kernel_core.specs.Holds.{IsSetup, memory, state, Holds, BoardStands}
+use Rattle.kernel_core.specs.First.{IsSetup}
+use Rattle.kernel_core.specs.Stands.{memory, state, BoardStands}
+use Rattle.kernel_core.specs.kept.Holds.{Holds}
 use Rattle.kernel_core.proofs.Sides.{within}
 use Rattle.kernel_core.proofs.Turns.{background_of}
 

@@ -22,15 +22,17 @@ use Rattle.ink_layout.specs.Layouts.{IsLayout}
 use Rattle.job_parts.specs.Job.{JobParts, IsJob}
 use Rattle.kernel_core.specs.Kernel.{first_kernel}
 use Rattle.kernel_core.specs.Record.{ChargeRecord, not_begun}
-use Rattle.kernel_core.specs.Recorded.{Recorded}
+use Rattle.kernel_core.specs.kept.Recorded.{Recorded}
 use Rattle.kernel_core.specs.Board.{Board, sides, first_board}
-use Rattle.kernel_core.specs.Holds.{IsSetup, Holds}
-use Rattle.kernel_core.specs.Core.{IsCore, AreRecords, CanCount, setup_of, charge_in, row_in, none_recorded, no_pusher, turns_from}
-use Rattle.kernel_core.specs.Starts.{first_pusher, AreFirstPushers, IsFirstRecord, AreFirstRecords}
+use Rattle.kernel_core.specs.First.{IsSetup, StandsFirst}
+use Rattle.kernel_core.specs.kept.Holds.{Holds}
+use Rattle.kernel_core.specs.Core.{setup_of}
+use Rattle.kernel_core.specs.kept.Cores.{IsCore, AreRecords, CanCount, charge_in, row_in, none_recorded, no_pusher, turns_from}
+use Rattle.kernel_core.specs.kept.Starts.{first_pusher, AreFirstPushers, IsFirstRecord, AreFirstRecords}
 use Rattle.kernel_core.proofs.CoreJobs.{turns_few}
 use Rattle.kernel_core.proofs.CoreCuts.{nothing_counted}
 use Rattle.never_cut.proofs.Lasting.{open_lasts}
-use Rattle.kernel_core.proofs.Firsts.{first_holds, first_stands}
+use Rattle.kernel_core.proofs.Firsts.{first_holds}
 
 -- a list of which each element has the same image
 map_same : {X Y : Type 0} (f : X → Y) (y : Y) (xs : List X) (n : ℕ) (none : X) → length xs ≡ n → ((k : ℕ) → k < n → f (get_or xs k none) ≡ y) → map f xs ≡ replicate n y
@@ -96,7 +98,7 @@ one_record_more job n records r h is = record {
   ];
 }
 
-module _ (job : JobParts) (words : List ℕ) (pushers : List Pusher) (records : List Recorded) (g : IsSetup (setup_of job)) (is : IsJob job) (image : IsFirstImage job.program words)
+module _ (job : JobParts) (words : List ℕ) (pushers : List Pusher) (records : List Recorded) (g : IsSetup (setup_of job)) (is : IsJob job) (first : StandsFirst (setup_of job) words)
     (ps : AreFirstPushers job.program (length job.program.sources) pushers) (rs : AreFirstRecords job (length job.charges) records) where
   abbrev Fields : Board
   Fields = record { words = words; kernel = first_kernel; rows = map row_in pushers; charges = map charge_in records; begun = 0 }
@@ -119,6 +121,7 @@ module _ (job : JobParts) (words : List ℕ) (pushers : List Pusher) (records : 
         (record { kernel = omega arith; sources = λ i. let none = nothing_counted (length job.program.sources) i in omega arith; ticks = omega arith });
     has_room = omega arith;
     later = λ k le lt. (rs.each k lt).room;
+    whole = λ k lt. (rs.each k lt).whole;
     unused = λ k le lt. record_at k lt;
     steps = λ k lt. ap (λ (c : ChargeRecord). length c.source_steps) (record_at k lt) ∙ length-replicate {A = ℕ} (length job.program.sources) 0;
   }
@@ -129,7 +132,7 @@ module _ (job : JobParts) (words : List ℕ) (pushers : List Pusher) (records : 
     layout_is = layout;
     rows = refl;
     machines = λ i lt. record { port = ap (λ (p : Pusher). p.port) (ps.each i lt); right = right_port job g.accepted i lt };
-    holds = subst (λ b. Holds (setup_of job) (length job.charges) b) (sym first_fields) (first_holds (setup_of job) words (length job.charges) g (first_stands (setup_of job) words g refl image));
+    holds = subst (λ b. Holds (setup_of job) (length job.charges) b) (sym first_fields) (first_holds (setup_of job) words (length job.charges) g first);
     range = let turns = turns_few job 0 is in let few = is.charges.count in record { clock = omega arith; counts = open_lasts job.program (0 + turns_from job 0) (omega arith); turns = omega arith };
     charges = refl;
     records_are = first_records_are;

@@ -40,7 +40,9 @@ use Rattle.kernel_core.specs.Kernel.{wants, takes, point_found}
 use Rattle.kernel_core.specs.Record.{with_kernel, with_source}
 use Rattle.kernel_core.specs.Board.{Setup, Board, shape, sides, journal, charged, finds, kernel_access, kernel_turn, source_made, source_turn, entry_of_source, row_of}
 use Rattle.kernel_core.specs.Views.{seen}
-use Rattle.kernel_core.specs.Holds.{IsSetup, memory, state, KernelHolds, HasSize, Holds}
+use Rattle.kernel_core.specs.First.{IsSetup}
+use Rattle.kernel_core.specs.Stands.{memory, state}
+use Rattle.kernel_core.specs.kept.Holds.{KernelHolds, HasSize, Holds}
 use Rattle.kernel_core.proofs.Sides.{within, shared_of, Becomes-set}
 use Rattle.kernel_core.proofs.Charges.{charged_journal, charged_later}
 use Rattle.kernel_core.proofs.KernelTurns.{kernel_steps}

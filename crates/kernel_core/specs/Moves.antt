@@ -6,10 +6,11 @@ use Rattle.prog_check.specs.Accepted.{IsAccepted}
 use Rattle.ink_layout.specs.Image.{IsFirstImage}
 use Rattle.never_cut.specs.declared.model.Model.{Model}
 use Rattle.never_cut.specs.State.{open_model}
+use Rattle.never_cut.specs.Finished.{AtMostOneFinished}
 use Rattle.never_cut.specs.Within.{AreShort, Lasts}
-use Rattle.task_run.specs.Knows.{HasCode}
 use Rattle.kernel_core.specs.Board.{Setup, Move, Cut, Turn, moved_by, first_board}
-use Rattle.kernel_core.specs.Holds.{IsSetup, StandsFirst, BoardStands}
+use Rattle.kernel_core.specs.First.{IsSetup, StandsFirst}
+use Rattle.kernel_core.specs.Stands.{state, BoardStands}
 
 -- an actor of the board
 abbrev pub IsActor : Setup → Actor → Type 0
@@ -53,10 +54,9 @@ EveryPrefixStands =
     (s : Setup) (words : List ℕ) (charges : ℕ) (moves : List Move) → IsSetup s → StandsFirst s words → AreMoves s charges 0 moves → IsInRange s.first (ticks moves) (turns moves) →
     (n : ℕ) → BoardStands s (moved_by s (first_board s words charges) (take n moves))
 
--- an accepted program whose code words read back as its instructions, readings within the limits, and the first image with its state
+-- an accepted program, readings within the limits, and the first image with its state
 pub record BeginsAtImage (s : Setup) (words : List ℕ) : Type 0 where
   pub accepted : IsAccepted s.program
-  pub code : HasCode s.program
   pub short : AreShort s.readings
   pub first : s.first ≡ open_model s.program
   pub image : IsFirstImage s.program words
@@ -66,3 +66,9 @@ abbrev pub ImagePrefixesStand : Type 0
 ImagePrefixesStand =
     (s : Setup) (words : List ℕ) (charges : ℕ) (moves : List Move) → BeginsAtImage s words → AreMoves s charges 0 moves → ticks moves < 2 ^ 47 → turns moves + 1 < 2 ^ 32 →
     (n : ℕ) → BoardStands s (moved_by s (first_board s words charges) (take n moves))
+
+-- and at most one thread has a finished event after each of them, where it was so at first
+abbrev pub OneIsFinished : Type 0
+OneIsFinished =
+    (s : Setup) (words : List ℕ) (charges : ℕ) (moves : List Move) → IsSetup s → StandsFirst s words → AreMoves s charges 0 moves → IsInRange s.first (ticks moves) (turns moves) →
+    AtMostOneFinished s.program s.first → (n : ℕ) → AtMostOneFinished s.program (state s (moved_by s (first_board s words charges) (take n moves)))

@@ -2,19 +2,21 @@
 ghost use Rattle.std.specs.Prelude.{◌≡◌, ◌+◌, ◌<◌, ◌≤◌, [], length, map, slice_index_or, vec_capacity, Some};
 ghost use Rattle.ink_layout.specs.Points.{entry_of_point};
 ghost use Rattle.ink_layout.specs.Image.{IsFirstImage};
-ghost use Rattle.task_run.specs.Knows.{HasCode};
 ghost use Rattle.push_core.specs.Table.{IsLeft, want_of};
 ghost use Rattle.source_laws.specs.Rows.{port_of};
 ghost use Rattle.never_cut.specs.Entries.{readings_of};
 ghost use Rattle.kernel_core.specs.Board.{first_board, turn, cut, kernel_turn, clock_turn, source_made, source_turn, source_access, row_of, sides, entry_of_source};
-ghost use Rattle.kernel_core.specs.Holds.{BoardStands};
+ghost use Rattle.kernel_core.specs.Stands.{BoardStands};
 ghost use Rattle.kernel_core.specs.Moves.{IsActor};
 ghost use Rattle.kernel_core.specs.Made.{made_by, kernel_made, access_made, source_makes, clock_made, nothing_made, accesses_in};
 ghost use Rattle.kernel_core.specs.Settling.{RefusalsKeep, SkipsStore};
 ghost use Rattle.kernel_core.specs.RunRecords.{RecordStands};
 ghost use Rattle.job_parts.specs.Job.{IsJob, item_turns, charge_turns};
-ghost use Rattle.kernel_core.specs.Starts.{AreFirstPushers, AreFirstRecords};
-ghost use Rattle.kernel_core.specs.Core.{View, IsCore, setup_of, row_in, charge_in, rebooted, turns_in, no_charge, job_of};
+ghost use Rattle.kernel_core.specs.kept.Starts.{AreFirstPushers, AreFirstRecords};
+ghost use Rattle.kernel_core.specs.kept.Recorded.{emptied};
+ghost use Rattle.kernel_core.specs.First.{StandsFirst};
+ghost use Rattle.kernel_core.specs.Core.{View, setup_of, turns_in, no_charge, job_of};
+ghost use Rattle.kernel_core.specs.kept.Cores.{IsCore, row_in, charge_in, rebooted};
 
 use crate::charge_record::ChargeRecord;
 use crate::kernel::Kernel;
@@ -24,12 +26,11 @@ use crate::run_record::{RunRecord, finished};
 use crate::start::Start;
 use fram_words::{Access, Fram};
 use ink_base::{Actor, Entry, SourceId};
-use ink_layout::{KernelPoint, Plan};
+use ink_layout::{KernelPoint, Plan, write_first_image};
 use job_parts::{Charge, Job};
 use push_core::{Point, Pusher, Row};
 use sqlite_items::Items;
 use std::marker::Model;
-use task_run::read_code_back;
 
 /// A job's board in its run: the words, the kernel, the sources and the clock, and what each charge leaves behind. Contracts see the
 /// job, the board, and for how many turns of the charge at hand there is room.
@@ -59,7 +60,7 @@ impl Core {
     // The core of a job from what it begins with.
     pub(crate) fn begin(start: Start) -> Core
         requires job { IsJob (job_of start.plan.accepted start.readings start.listed) }
-        requires image { IsFirstImage start.plan.accepted start.fram }
+        requires first { StandsFirst (setup_of (job_of start.plan.accepted start.readings start.listed)) start.fram }
         requires pushers { AreFirstPushers start.plan.accepted (length start.plan.accepted.sources) start.pushers.items }
         requires charges { AreFirstRecords (job_of start.plan.accepted start.readings start.listed) (length start.listed) start.charges.items }
         requires empty { start.kept.items ≡ [] }
@@ -67,7 +68,6 @@ impl Core {
         ensures job { result.job ≡ job_of start.plan.accepted start.readings start.listed }
         ensures words { result.board.words ≡ start.fram }
         ensures board { result.board ≡ first_board (setup_of (job_of start.plan.accepted start.readings start.listed)) start.fram (length start.listed) }
-        ensures code { HasCode start.plan.accepted }
     {
         let Start {
             plan,
@@ -78,7 +78,6 @@ impl Core {
             charges,
             kept,
         } = start;
-        read_code_back(plan.program());
         Core {
             plan,
             readings,
@@ -122,6 +121,31 @@ impl Core {
             charges: finished(charges, kept),
             words: Items::from_vec(fram.into_words()),
         }
+    }
+
+    /// The board as it was before its first charge, in the memory that is there: the words of the first image, all registers lost, and no
+    /// charge begun. So the job can be run again. It takes no memory.
+    pub fn begin_again(&mut self)
+        ensures image { IsFirstImage self.new.job.program self.new.board.words }
+        ensures board { self.new.board ≡ first_board (setup_of self.old.job) self.new.board.words (length self.old.job.charges) }
+        ensures stands { BoardStands (setup_of self.new.job) self.new.board }
+        ensures job { self.new.job ≡ self.old.job }
+    {
+        self.forget_run();
+        self.stands();
+    }
+
+    fn forget_run(&mut self)
+        ensures image { IsFirstImage self.new.job.program self.new.board.words }
+        ensures board { self.new.board ≡ first_board (setup_of self.old.job) self.new.board.words (length self.old.job.charges) }
+        ensures job { self.new.job ≡ self.old.job }
+    {
+        write_first_image(&mut self.fram, &self.plan.accepted, &self.plan.layout);
+        self.kernel = Kernel::boot();
+        lose_rows(&mut self.pushers);
+        clear_records(&mut self.charges);
+        self.begun = 0;
+        self.room = 0;
     }
 
     // The charges that the job lists.
@@ -226,9 +250,10 @@ impl Core {
     {
         let access = self.kernel.want(&self.plan);
         let word = self.fram.perform(access);
-        let point = self.kernel.take(&self.plan, word);
+        let point = self.kernel.point(word);
         let entry = entry_of_point(point);
         self.charges[self.begun - 1].note_kernel(entry);
+        self.kernel.take(&self.plan, word);
         self.room -= 1;
         Made {
             access: Some(access),
@@ -315,6 +340,15 @@ fn lose_rows(pushers: &mut Vec<Pusher>)
 {
     for pusher in pushers.iter_mut() {
         pusher.row = Row::first();
+    }
+}
+
+// Each record goes back to that of a charge that has not begun.
+fn clear_records(charges: &mut Vec<Recording>)
+    ensures { charges.new.items ≡ map emptied charges.old.items }
+{
+    for charge in charges.iter_mut() {
+        charge.clear();
     }
 }
 

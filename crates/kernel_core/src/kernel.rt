@@ -72,7 +72,7 @@ impl Kernel {
                     Some(Scanned::Pick(pick)) => {
                         *self = Kernel::Task(TaskMachine::begin(pick, *stamp));
                     }
-                    Some(Scanned::Quiet) => *scan = ScanMachine::begin(),
+                    Some(Scanned::Quiet) => scan.begin_again(),
                     None => {}
                 }
                 point
@@ -84,6 +84,18 @@ impl Kernel {
                 }
                 point
             }
+        }
+    }
+
+    /// What the wanted access means to the never-cut kernel, where it found this word: what `take` answers.
+    #[inline(always)]
+    pub fn point(&self, word: u64) -> KernelPoint
+        ensures { (program : Program) → result ≡ point_found program self.now word }
+    {
+        match self {
+            Kernel::Boot(boot) => boot.point(),
+            Kernel::Scan { scan, .. } => scan.point(word),
+            Kernel::Task(machine) => machine.point(),
         }
     }
 

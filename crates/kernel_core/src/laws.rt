@@ -1,15 +1,17 @@
 //! What a run of the board keeps.
 
-ghost use Rattle.kernel_core.specs.Moves.{EveryPrefixStands, ImagePrefixesStand};
+ghost use Rattle.kernel_core.specs.Moves.{EveryPrefixStands, ImagePrefixesStand, OneIsFinished};
 ghost use Rattle.kernel_core.specs.Scanned.{EveryCommitScanned};
 
 /// The law of the board, for every accepted program, any readings within the limits, any first words that stand for a state at which a
 /// run can begin, and every order of turns of sources, clock and kernel and of cuts. After each access and each cut the one journal kept
-/// so far is legal, and the words of the FRAM stand for the never-cut kernel after it. The first image has such words.
+/// so far is legal, and the words of the FRAM stand for the never-cut kernel after it. The first image has such words. At most one thread
+/// has a finished event, where it is so of the first state.
 ///
 /// No pick outlives a cut: of every program, from any words on and in any such order, each commit stands behind a scan of the same charge.
 pub fn boards_stand()
     ensures stands { EveryPrefixStands }
     ensures image { ImagePrefixesStand }
+    ensures finished { OneIsFinished }
     ensures scanned { EveryCommitScanned }
 {}

@@ -2,7 +2,7 @@
 ghost use Rattle.std.specs.Prelude.{◌≡◌, ◌+◌, ◌<◌, ◌≤◌, length, slice_index_or};
 ghost use Rattle.job_parts.specs.Job.{item_turns};
 ghost use Rattle.kernel_core.specs.Board.{moved_by};
-ghost use Rattle.kernel_core.specs.Holds.{BoardStands};
+ghost use Rattle.kernel_core.specs.Stands.{BoardStands};
 ghost use Rattle.kernel_core.specs.Listed.{moves, moves_of, turns_of};
 ghost use Rattle.kernel_core.specs.Moves.{IsActor};
 ghost use Rattle.kernel_core.specs.Core.{setup_of, charge_def, no_item};

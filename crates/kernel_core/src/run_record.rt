@@ -1,6 +1,6 @@
 //! What a run leaves behind.
 ghost use Rattle.std.specs.Prelude.{◌≡◌, ◌≤◌, [], length, map, vec_capacity};
-ghost use Rattle.kernel_core.specs.Core.{charge_in};
+ghost use Rattle.kernel_core.specs.kept.Cores.{charge_in};
 
 use crate::charge_record::ChargeRecord;
 use crate::recording::Recording;

@@ -2,12 +2,12 @@
 ghost use Rattle.std.specs.Prelude.{◌≡◌, ◌<◌, ◌≤◌, [], length, vec_capacity, IfOk};
 ghost use Rattle.push_core.specs.Table.{IsPort};
 ghost use Rattle.ink_layout.specs.Image.{IsFirstImage};
-ghost use Rattle.task_run.specs.Knows.{HasCode};
 ghost use Rattle.kernel_core.specs.Board.{first_board};
-ghost use Rattle.kernel_core.specs.Holds.{BoardStands};
+ghost use Rattle.kernel_core.specs.First.{StandsFirst};
+ghost use Rattle.kernel_core.specs.Stands.{BoardStands};
 ghost use Rattle.kernel_core.specs.Core.{setup_of, job_of};
 ghost use Rattle.job_parts.specs.Job.{IsJob};
-ghost use Rattle.kernel_core.specs.Starts.{port_in, IsFirstRecord, AreFirstPushers, AreFirstRecords};
+ghost use Rattle.kernel_core.specs.kept.Starts.{port_in, IsFirstRecord, AreFirstPushers, AreFirstRecords};
 
 use crate::board::{Core, turns_in};
 use crate::charge_record::ChargeRecord;
@@ -28,9 +28,8 @@ pub fn prepare(alloc: Global, job: Job) -> Result<Core, NoMemory>
     ensures board { IfOk result (λ core. core.board ≡ first_board (setup_of job) core.board.words (length job.charges)) }
     ensures stands { IfOk result (λ core. BoardStands (setup_of core.job) core.board) }
 
-    // What the claims on its run rest on: the limits of the job, and that the code's words are read as its instructions.
+    // What the claims on its run rest on: the limits of the job.
     ensures limits { IfOk result (λ _. IsJob job) }
-    ensures code { IfOk result (λ _. HasCode job.program) }
 {
     let start = Start::of(alloc, job)?;
     let core = Core::begin(start);
@@ -55,6 +54,7 @@ impl Start {
         ensures job { IfOk result (λ start. job_of start.plan.accepted start.readings start.listed ≡ job) }
         ensures limits { IfOk result (λ start. IsJob (job_of start.plan.accepted start.readings start.listed)) }
         ensures image { IfOk result (λ start. IsFirstImage start.plan.accepted start.fram) }
+        ensures first { IfOk result (λ start. StandsFirst (setup_of (job_of start.plan.accepted start.readings start.listed)) start.fram) }
         ensures pushers { IfOk result (λ start. AreFirstPushers start.plan.accepted (length start.plan.accepted.sources) start.pushers.items) }
         ensures charges { IfOk result (λ start. AreFirstRecords (job_of start.plan.accepted start.readings start.listed) (length start.listed) start.charges.items) }
         ensures empty { IfOk result (λ start. start.kept.items ≡ []) }

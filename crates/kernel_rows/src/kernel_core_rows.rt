@@ -6,9 +6,13 @@ use kernel_core::{ChargeRecord, RunRecord, prepare};
 use std::alloc::Global;
 use std::test::Fail;
 
-fn record(alloc: Global, text: &[u8]) -> Result<RunRecord, JobAnswer> {
+fn record(alloc: Global, text: &[u8], again: u32) -> Result<RunRecord, JobAnswer> {
     let mut core = prepare(alloc, job(alloc, text)?)?;
     core.run();
+    for _ in 0..again {
+        core.begin_again();
+        core.run();
+    }
     Ok(core.into_record())
 }
 
@@ -33,8 +37,8 @@ fn is_whole_service(charge: &ChargeRecord) -> bool {
         && (charge.off, charge.kernel_steps, charge.tick_steps) == (0, 79, 0)
 }
 
-fn is_one_service(alloc: Global, text: &[u8]) -> Result<bool, JobAnswer> {
-    let record = record(alloc, text)?;
+fn is_one_service(alloc: Global, text: &[u8], again: u32) -> Result<bool, JobAnswer> {
+    let record = record(alloc, text, again)?;
     match record.charges.as_slice() {
         [charge] => Ok(is_whole_service(charge)),
         _ => Ok(false),
@@ -44,6 +48,12 @@ fn is_one_service(alloc: Global, text: &[u8]) -> Result<bool, JobAnswer> {
 // 3 accesses of a boot, 5 of a scan, and 71 of a task.
 #[test]
 fn a_run_records_its_charge(rt: HostRuntime) -> Result<(), Fail> {
-    assert!(rt; is_one_service(rt.alloc(), SUMMING)?);
+    assert!(rt; is_one_service(rt.alloc(), SUMMING, 0)?);
+    Ok(())
+}
+
+#[test]
+fn a_core_that_begins_again_makes_the_same_run(rt: HostRuntime) -> Result<(), Fail> {
+    assert!(rt; is_one_service(rt.alloc(), SUMMING, 2)?);
     Ok(())
 }

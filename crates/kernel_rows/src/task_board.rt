@@ -3,7 +3,8 @@
 ghost use Rattle.std.specs.Prelude.{◌≡◌, ◌<◌, IsTrue};
 ghost use Rattle.prog_check.specs.Lookup.{thread_def};
 ghost use Rattle.task_isa.specs.Acts.{number_of};
-ghost use Rattle.task_run.specs.Fits.{FitsChain, FitsExecution, FitsOrigin, FitsPhase, FitsSending, FitsSetting, FitsTask, FitsWord};
+ghost use Rattle.fram_words.specs.Held.{FitsOrigin};
+ghost use Rattle.task_run.specs.Fits.{FitsChain, FitsExecution, FitsPhase, FitsSending, FitsSetting, FitsTask, FitsWord};
 
 use crate::fixtures::plan;
 use fram_words::{Access, Fram, ThreadPlace};

@@ -8,20 +8,21 @@ use Rattle.std.proofs.lemmas.List.{length-replicate, get_or-replicate, get_or_pa
 use Rattle.std.proofs.lemmas.Nat.Bits.{bit_at-lt}
 use Rattle.fram_words.specs.Places.{Place, Code, Commit, Page}
 use Rattle.fram_words.specs.Shape.{is_valid, memory_of, address, regions, region, has_indices, thread_regions, queue_regions}
+use Rattle.fram_words.specs.Held.{due_word}
 use Rattle.thread_state.specs.Pages.{place_in}
 use Rattle.task_isa.specs.declared.program.Program.{Program}
 use Rattle.task_isa.specs.declared.program.ThreadDef.{ThreadDef}
 use Rattle.prog_check.specs.Lookup.{thread_def, no_thread_def, timer_def, no_timer_def, pipe_def, no_pipe_def}
 use Rattle.prog_check.specs.Accepted.{IsAccepted}
 use Rattle.ink_layout.specs.Shape.{shape_of, pages_of, thread_shape}
-use Rattle.ink_layout.specs.Image.{IsFirstImage, first_due, is_timer_of, timed_word}
+use Rattle.ink_layout.specs.Image.{IsFirstImage, is_timer_of, timed_word}
 use Rattle.ink_layout.specs.Image as image
 use Rattle.ink_layout.proofs.Regions.{at_right}
 use Rattle.never_cut.specs.declared.thread_model.ThreadModel.{ThreadModel}
 use Rattle.never_cut.specs.declared.pipe_model.PipeModel.{PipeModel}
 use Rattle.never_cut.specs.declared.timer_model.TimerModel.{TimerModel}
 use Rattle.never_cut.specs.State.{thread_of, pipe_of, timer_of, open_model, open_thread, open_pipe, open_timer, no_pipe}
-use Rattle.never_cut.specs.Stands.{Saved, saved, thread_words, flag, due_word, written_word, taken_word, timer_word, period_word, StandsThread, StandsPrivate}
+use Rattle.never_cut.specs.Stands.{Saved, saved, thread_words, flag, written_word, taken_word, timer_word, period_word, StandsThread, StandsPrivate}
 
 -- the words of a thread's pages
 pages_at : (defs : List ThreadDef) (rest : List ℕ) (t : ℕ) → t < length defs →
@@ -119,7 +120,7 @@ open_saved program t = record {
   outputs = [];
   written = λ q. 0;
   taken = λ q. 0;
-  due = λ j. if is_timer_of program (length program.timers) t j then first_due (timer_def program j).due else 0;
+  due = λ j. if is_timer_of program (length program.timers) t j then due_word (timer_def program j).due else 0;
   period = λ j. if is_timer_of program (length program.timers) t j then (timer_def program j).period else 0;
 }
 
@@ -158,16 +159,10 @@ none_taken program t q =
     let own : Bool = nat_lt q (length program.pipes) && ((pipe_def program q).reader.0 == t) in
     ap (λ (p : PipeModel). if own then p.taken else 0) (open_pipe_at program q) ∙ zero_either own
 
--- a timer's word is the image's
-due_is : (due : Option ℕ) → due_word due ≡ first_due due
-due_is None = refl
-due_is (Some due) = refl
-
 open_due : (program : Program) (t j : ℕ) →
-    timer_word program (open_model program) t j ≡ (if is_timer_of program (length program.timers) t j then first_due (timer_def program j).due else 0)
+    timer_word program (open_model program) t j ≡ (if is_timer_of program (length program.timers) t j then due_word (timer_def program j).due else 0)
 open_due program t j =
     ap (λ (x : TimerModel). if is_timer_of program (length program.timers) t j then due_word x.due else 0) (open_timer_at program j)
-    ∙ ap (λ (v : ℕ). if is_timer_of program (length program.timers) t j then v else 0) (due_is (timer_def program j).due)
 
 open_period : (program : Program) (t j : ℕ) →
     period_word program (open_model program) t j ≡ (if is_timer_of program (length program.timers) t j then (timer_def program j).period else 0)

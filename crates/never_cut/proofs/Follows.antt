@@ -1,19 +1,28 @@
 -- What the accesses of the other actors leave as it is.
-use Rattle.std.proofs.Common.{◌≡◌, ℕ, ◌+◌, List, ◌++◌, ap, ◌∙◌}
+use Rattle.std.proofs.Common.{◌≡◌, inl, inr, ℕ, ◌+◌, ◌<◌, ◌≤◌, ◌==◌, cond, List, [], ◌∷◌, ◌++◌, length, get_or, set, refl, sym, ap, ◌∙◌, subst, arith}
+use Rattle.std.proofs.lemmas.Bool.{cases_eq, eq-eqb, ne_eqb}
+use Rattle.std.proofs.lemmas.List.{append-nil, length-set}
 use Rattle.ink_base.specs.declared.event.Event.{Event}
 use Rattle.ink_base.specs.declared.output.Output.{Output}
+use Rattle.ink_base.specs.declared.entry.Entry.{Entry}
+use Rattle.ink_base.specs.declared.entry.Entry.TheVariants.{Push, Refuse, Skip, Tick, Scan, Look, Commit, Release}
 use Rattle.task_isa.specs.declared.program.Program.{Program}
 use Rattle.fram_words.specs.Places.{Memory}
+use Rattle.prog_check.specs.Accepted.{IsAccepted}
+use Rattle.prog_check.specs.Lookup.{source_thread}
 use Rattle.never_cut.specs.declared.model.Model.{Model}
 use Rattle.never_cut.specs.declared.thread_model.ThreadModel.{ThreadModel}
 use Rattle.never_cut.specs.declared.pipe_model.PipeModel.{PipeModel}
 use Rattle.never_cut.specs.declared.timer_model.TimerModel.{TimerModel}
-use Rattle.never_cut.specs.State.{thread_of}
-use Rattle.never_cut.specs.Entries.{IsCalm}
+use Rattle.never_cut.specs.declared.source_model.SourceModel.{SourceModel}
+use Rattle.never_cut.specs.State.{thread_of, source_of, no_thread, with_thread, with_source}
+use Rattle.never_cut.specs.Entries.{Readings, IsCalm, Legal, effect, pushed, next_event, with_accepted, with_refused, with_skipped}
+use Rattle.never_cut.specs.Sound.{IsSound}
 use Rattle.never_cut.specs.Stands.{flag, StandsPrivate}
-use Rattle.never_cut.specs.Actors.{SamePrivate, Follows, IsFirstHeld, IsFinishing, without_held}
+use Rattle.never_cut.specs.Actors.{SamePrivate, IsOther, Follows, IsFirstHeld, IsFinishing, without_held}
 use Rattle.never_cut.proofs.Privates.{SamePrivately, private_stays, blocks_same}
 use Rattle.never_cut.proofs.Releases.{saved_by}
+use Rattle.never_cut.proofs.Threads.{thread_of-with_same, thread_of-with_other}
 
 pub follow_finished : (m next : Model) (t : ℕ) → Follows m next → (thread_of next t).finished ≡ (thread_of m t).finished
 follow_finished m next t f = ap (λ (x : ThreadModel). x.finished) (f.threads t)
@@ -65,3 +74,57 @@ follow_privately program m next f = record {
 pub follow_private : (words new : Memory) (program : Program) (m next : Model) → SamePrivate words new → Follows m next → StandsPrivate words program m → StandsPrivate new program next
 follow_private words new program m next same f h =
     private_stays words new program m next (blocks_same words new same) (follow_privately program m next f) h
+
+-- nothing that the kernel knows of changes
+pub same_follows : (m next : Model) → next.threads ≡ m.threads → next.pipes ≡ m.pipes → next.timers ≡ m.timers → next.outputs ≡ m.outputs → next.commits ≡ m.commits → next.scan ≡ m.scan →
+    m.clock ≤ next.clock → Follows m next
+same_follows m next threads pipes timers outputs commits scan clock = record {
+  threads = λ t. ap (λ (l : List ThreadModel). without_held (get_or l t no_thread)) threads;
+  more = λ t. [];
+  held = λ t. ap (λ (l : List ThreadModel). (get_or l t no_thread).held) threads ∙ sym (append-nil (thread_of m t).held);
+  count = ap length threads;
+  pipes = pipes;
+  timers = timers;
+  outputs = outputs;
+  commits = commits;
+  scan = scan;
+  clock = clock;
+}
+
+-- a queue gets one more event
+pub push_follows : (m : Model) (t i : ℕ) (e : Event) (s : SourceModel) → t < length m.threads →
+    Follows m (with_source (with_thread m t (pushed e (thread_of m t))) i s)
+push_follows m t i e s lt = record {
+  threads = λ u. elim (cases_eq u t) [
+    | inl is ↦ subst (λ v. without_held (get_or (set m.threads t (pushed e (thread_of m t))) v no_thread) ≡ without_held (thread_of m v)) (sym is)
+        (ap without_held (thread_of-with_same m t (pushed e (thread_of m t)) lt))
+    | inr ne ↦ ap without_held (thread_of-with_other m t u (pushed e (thread_of m t)) ne)
+  ];
+  more = λ u. cond (u == t) (e ∷ []) [];
+  held = λ u. elim (cases_eq u t) [
+    | inl is ↦ rw (eq-eqb u t is) (subst (λ v. (get_or (set m.threads t (pushed e (thread_of m t))) v no_thread).held ≡ (thread_of m v).held ++ e ∷ []) (sym is)
+        (ap (λ (z : ThreadModel). z.held) (thread_of-with_same m t (pushed e (thread_of m t)) lt)))
+    | inr ne ↦ rw (ne_eqb u t ne) (ap (λ (z : ThreadModel). z.held) (thread_of-with_other m t u (pushed e (thread_of m t)) ne) ∙ sym (append-nil (thread_of m u).held))
+  ];
+  count = length-set m.threads t (pushed e (thread_of m t));
+  pipes = refl;
+  timers = refl;
+  outputs = refl;
+  commits = refl;
+  scan = refl;
+  clock = omega arith;
+}
+
+-- the entries of sources and clock are such steps
+pub other_follows : (program : Program) (readings : Readings) (m : Model) (e : Entry) → IsAccepted program → IsSound program readings m → IsOther e → Legal program readings m e →
+    Follows m (effect program readings m e)
+other_follows program readings m (Push i) accepted sound other legal =
+    let fed : source_thread program i.0 < length m.threads = rw sound.shape.threads (accepted.sources i.0 legal.0) in
+    push_follows m (source_thread program i.0) i.0 (next_event readings m i.0) (with_accepted (source_of m i.0)) fed
+other_follows program readings m (Refuse i) accepted sound other legal = same_follows m (with_source m i.0 (with_refused (source_of m i.0))) refl refl refl refl refl refl (omega arith)
+other_follows program readings m (Skip i) accepted sound other legal = same_follows m (with_source m i.0 (with_skipped (source_of m i.0))) refl refl refl refl refl refl (omega arith)
+other_follows program readings m (Tick by) accepted sound other legal = same_follows m (effect program readings m (Tick by)) refl refl refl refl refl refl (omega arith)
+other_follows program readings m Scan accepted sound other legal = absurd other
+other_follows program readings m (Look t) accepted sound other legal = absurd other
+other_follows program readings m (Commit t) accepted sound other legal = absurd other
+other_follows program readings m (Release t) accepted sound other legal = absurd other

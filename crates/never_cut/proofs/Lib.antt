@@ -22,6 +22,7 @@ pub mod Ready
 pub mod SoundCommits
 pub mod PickedEnds
 pub mod SoundStates
+pub mod Finished
 pub mod Lasting
 pub mod Starts
 pub mod Firsts
@@ -41,3 +42,12 @@ pub mod Turns
 pub mod Served
 pub mod Replays
 pub mod FirstImages
+pub mod Costs
+pub mod ReadQueues
+pub mod ReadSources
+pub mod ReadStates
+pub mod ReadCounts
+pub mod ImagesStand
+pub mod ToldQueues
+pub mod StatesImage
+pub mod Devices

@@ -5,13 +5,14 @@ use Rattle.std.specs.Option.{ForSome}
 use Rattle.ink_base.specs.declared.output.Output.{Output}
 use Rattle.task_isa.specs.declared.program.Program.{Program}
 use Rattle.fram_words.specs.Places.{Code, Commit, Log, Ring, Ack, Memory, store}
+use Rattle.fram_words.specs.Held.{origin_word}
 use Rattle.thread_state.specs.Pages.{place_in, committed}
 use Rattle.prog_check.specs.Lookup.{pipe_def}
 use Rattle.never_cut.specs.declared.model.Model.{Model}
 use Rattle.never_cut.specs.declared.pipe_model.PipeModel.{PipeModel}
 use Rattle.never_cut.specs.State.{thread_of, no_pipe}
 use Rattle.never_cut.specs.Commit.{outputs_of}
-use Rattle.never_cut.specs.Stands.{saved, thread_words, origin_word, log_of, AreLogged, StandsThread, StandsPipe, StandsPrivate}
+use Rattle.never_cut.specs.Stands.{saved, thread_words, log_of, AreLogged, StandsThread, StandsPipe, StandsPrivate}
 use Rattle.never_cut.specs.Actors.{SamePrivate}
 
 -- the words that blocks, logs, rings and code have are as they were

@@ -19,10 +19,11 @@ use Rattle.never_cut.specs.declared.thread_model.ThreadModel.{ThreadModel}
 use Rattle.never_cut.specs.State.{thread_of, source_of, no_thread, no_source, open_model, with_thread}
 use Rattle.never_cut.specs.Commit.{is_of_queue}
 use Rattle.never_cut.specs.Entries.{Readings, readings_of, Legal, effect, fed_by, next_event, pushed, with_accepted, with_refused, with_skipped}
+use Rattle.never_cut.specs.Journal.{after, IsLegal}
 use Rattle.never_cut.specs.Sound.{IsSound, IsSoundSource, IsQueued}
 use Rattle.never_cut.specs.Start.{CanStart}
 use Rattle.push_core.specs.Queue.{event_at}
-use Rattle.never_cut.specs.Within.{HasRoom, IsWithinThread, IsWithinSource, Lasts, LastsThread, is_scanning}
+use Rattle.never_cut.specs.Within.{AreReadings, HasRoom, IsWithinThread, IsWithinSource, Lasts, LastsThread, is_scanning}
 use Rattle.never_cut.proofs.Commits.{commit-sources}
 use Rattle.never_cut.proofs.Lasting.{lasts_step, open_lasts}
 use Rattle.never_cut.proofs.SoundSources.{sources_with, source_made, sources_same}
@@ -148,6 +149,15 @@ goes_on_step program readings left m e accepted few h legal =
       sources = sources;
     }
 
+-- a legal journal takes up the room of its entries
+pub goes_on_after : (program : Program) (readings : Readings) (left : ℕ) (m : Model) (journal : List Entry) → IsAccepted program → ((j : ℕ) → length (readings_of readings j) ≤ 65535) →
+    GoesOn program readings (left + length journal) m → IsLegal program readings m journal → GoesOn program readings left (after program readings m journal)
+goes_on_after program readings left m [] accepted few h legal = subst (λ n. GoesOn program readings n m) (let e : left + 0 ≡ left = omega arith in e) h
+goes_on_after program readings left m (e ∷ journal) accepted few h legal =
+    goes_on_after program readings left (effect program readings m e) journal accepted few
+    (goes_on_step program readings (left + length journal) m e accepted few
+    (subst (λ n. GoesOn program readings n m) (let more : left + suc (length journal) ≡ left + length journal + 1 = omega arith in more) h) legal.0) legal.1
+
 -- a state at which a run can begin has all of it
 pub starts : (program : Program) (readings : Readings) (first : Model) → ((j : ℕ) → length (readings_of readings j) ≤ 65535) → CanStart program readings first →
     GoesOn program readings (2 ^ 32 - 1) first
@@ -160,3 +170,11 @@ open_starts program readings accepted few = record {
   stamps = record { below = All-nil (λ (o : Output). o.stamp ≤ 0); ordered = λ i j d le lt. absurd (omega arith) };
   counts = open_lasts program (2 ^ 32 - 1) (omega arith);
 }
+
+-- and after every legal journal from there, of no more entries than a number of 32 bits counts, there is room for one more
+pub has_room_after : (program : Program) (readings : Readings) (first : Model) (journal : List Entry) → IsAccepted program → AreReadings program readings → CanStart program readings first →
+    IsLegal program readings first journal → length journal < 2 ^ 32 → HasRoom program (after program readings first journal)
+has_room_after program readings first journal accepted are start legal short =
+    let left : 2 ^ 32 - 1 - length journal + length journal ≡ 2 ^ 32 - 1 = omega arith in
+    (goes_on_after program readings (2 ^ 32 - 1 - length journal) first journal accepted are.few
+    (subst (λ n. GoesOn program readings n first) (sym left) (starts program readings first are.few start)) legal).room

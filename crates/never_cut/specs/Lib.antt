@@ -12,7 +12,16 @@ pub mod Picked
 pub mod Within
 pub mod Replaying
 pub mod Replay
+pub mod Finished
 pub mod Laws
 pub mod Start
 pub mod Ranges
 pub mod Wanted
+pub mod ReadOff
+pub mod Image
+pub mod Worn
+pub mod Images
+pub mod Reached
+pub mod Cost
+pub mod Bounds
+pub mod Devices

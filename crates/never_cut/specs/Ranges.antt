@@ -7,6 +7,8 @@ use Rattle.ink_base.specs.declared.event.Origin.TheVariants as origins
 use Rattle.task_isa.specs.declared.program.Program.{Program}
 use Rattle.task_isa.specs.Code.{decoded}
 use Rattle.fram_words.specs.Places.{Place, Code, Commit, Page, Log, Ring, Tail, Slot, Ack, Clock, Src, Access, Load, Store, Exchange, Add}
+use Rattle.fram_words.specs.Header as header
+use Rattle.fram_words.specs.Held.{origin_word}
 use Rattle.push_core.specs.Slots.{slot_in}
 use Rattle.push_core.specs.Table.{greatest_tail}
 use Rattle.push_core.specs.declared.slot.Slot as slot
@@ -14,7 +16,6 @@ use Rattle.push_core.specs.declared.slot.Slot.TheVariants as slots
 use Rattle.prog_check.specs.Lookup.{thread_def, pipe_def, timer_def, task_def, instr_at, source_thread}
 use Rattle.ink_layout.specs.Shape.{pages_of}
 use Rattle.ink_layout.specs.declared.pick.Pick.{Pick}
-use Rattle.never_cut.specs.Stands.{origin_word}
 
 -- the first number that no count and no stamp reaches
 abbrev pub no_count : ℕ
@@ -63,21 +64,21 @@ nothing_loaded = record { time = 0; running = false; taken = None }
 abbrev pub IsWrittenOf : Program → (q taken word : ℕ) → Type 0
 IsWrittenOf program q taken word = (taken ≤ word) × (word ≤ taken + (pipe_def program q).places)
 
--- a header word of thread t by its number, in either copy; behind the header stands the state
-pub record IsHeaderWord (program : Program) (loaded : Loaded) (t header word : ℕ) : Type 0 where
-  pub stamp : header ≡ 0 → word < no_count
-  pub next : header ≡ 1 → word ≢ 0 → IsTaskOf program t (word - 1)
-  pub first : header ≡ 2 → word ≤ loaded.time
-  pub origin : header ≡ 3 → loaded.running ≡ true → (o : Origin) × (word ≡ origin_word o) × IsOwnOrigin program t o
-  pub value : header ≡ 4 → loaded.running ≡ true → word < 2 ^ 32
-  pub finished : header ≡ 5 → word ≤ greatest_tail
-  pub totals : 6 ≤ header → header ≤ 8 → word < no_count
-  pub outputs : header ≡ 9 → word ≤ (thread_def program t).log
-  pub written : 10 ≤ header → header ≤ 17 → ForSome loaded.taken (λ taken. IsWrittenOf program (header - 10) taken word)
-  pub taken : 18 ≤ header → header ≤ 25 → word < no_count
-  pub due : (j : ℕ) → j < 8 → header ≡ 26 + 2 * j → word ≤ 2 ^ 48
-  pub period : (j : ℕ) → j < 8 → header ≡ 27 + 2 * j → word < 2 ^ 32
-  pub state : 48 ≤ header → word < 2 ^ 32
+-- word w of thread t's block, in either copy: a header word, or behind the header one of the state
+pub record IsHeaderWord (program : Program) (loaded : Loaded) (t w word : ℕ) : Type 0 where
+  pub stamp : w ≡ header.stamp → word < no_count
+  pub next : w ≡ header.next → word ≢ 0 → IsTaskOf program t (word - 1)
+  pub first : w ≡ header.first → word ≤ loaded.time
+  pub origin : w ≡ header.origin → loaded.running ≡ true → (o : Origin) × (word ≡ origin_word o) × IsOwnOrigin program t o
+  pub value : w ≡ header.value → loaded.running ≡ true → word < 2 ^ 32
+  pub finished : w ≡ header.finished → word ≤ greatest_tail
+  pub totals : header.served ≤ w → w ≤ header.expired → word < no_count
+  pub outputs : w ≡ header.outputs → word ≤ (thread_def program t).log
+  pub written : header.written 0 ≤ w → w ≤ header.written 7 → ForSome loaded.taken (λ taken. IsWrittenOf program (w - header.written 0) taken word)
+  pub taken : header.taken 0 ≤ w → w ≤ header.taken 7 → word < no_count
+  pub due : (j : ℕ) → j < 8 → w ≡ header.due j → word ≤ 2 ^ 48
+  pub period : (j : ℕ) → j < 8 → w ≡ header.period j → word < 2 ^ 32
+  pub state : header.words ≤ w → word < 2 ^ 32
 
 -- The word is in the range of its place. A code word is read as the program's instruction; no word of a log or of SRC is loaded by the kernel.
 abbrev pub IsWordAt : Program → Loaded → Place → (word : ℕ) → Type 0

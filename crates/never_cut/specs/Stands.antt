@@ -2,12 +2,13 @@
 use Rattle.std.specs.Prelude.{◌≡◌, ◌⊎◌, ℕ, ◌+◌, ◌*◌, ◌%◌, ◌^◌, ◌<◌, ◌≤◌, ◌==◌, ◌&&◌, nat_lt, Bool, if◌then◌else◌, List, [], ◌∷◌, length, map, slice_index, Option, Some, None}
 use Rattle.std.specs.Option.{ForSome}
 use Rattle.ink_base.specs.declared.ids.TaskId.{TaskId}
-use Rattle.ink_base.specs.declared.event.Origin.{Origin}
 use Rattle.ink_base.specs.declared.event.Origin.TheVariants as origins
 use Rattle.ink_base.specs.declared.output.Output.{Output}
 use Rattle.task_isa.specs.declared.program.Program.{Program}
 use Rattle.task_isa.specs.Code.{word_of_instr}
 use Rattle.fram_words.specs.Places.{Memory, Code, Log, Ring, Tail, Slot, Ack, Clock, Src}
+use Rattle.fram_words.specs.Header as header
+pub use Rattle.fram_words.specs.Held.{next_word, origin_word, due_word, output_word}
 use Rattle.thread_state.specs.Pages.{committed}
 use Rattle.push_core.specs.Queue.{StandsQueue, StandsSource}
 use Rattle.prog_check.specs.Lookup.{thread_def, pipe_def, timer_def, task_def, instr_at, source_thread}
@@ -18,34 +19,29 @@ use Rattle.never_cut.specs.Commit.{outputs_of}
 abbrev pub flag : Bool → ℕ
 flag b = if b then 1 else 0
 
--- 0 for idle, else 1 plus the task that the chain goes on with
-abbrev pub next_word : Option TaskId → ℕ
-next_word None = 0
-next_word (Some task) = task.0 + 1
+-- the thread writes the pipe; it reads it; the timer is its own
+abbrev pub writes_pipe : Program → (t q : ℕ) → Bool
+writes_pipe program t q = nat_lt q (length program.pipes) && ((pipe_def program q).writer.0 == t)
 
-abbrev pub origin_word : Origin → ℕ
-origin_word (origins.Source source count) = 1 * 2 ^ 56 + source.0 * 2 ^ 16 + count
-origin_word (origins.Pipe pipe item) = 2 * 2 ^ 56 + pipe.0 * 2 ^ 32 + item
-origin_word (origins.Timer timer deadline) = 3 * 2 ^ 56 + timer.0 * 2 ^ 48 + deadline
+abbrev pub reads_pipe : Program → (t q : ℕ) → Bool
+reads_pipe program t q = nat_lt q (length program.pipes) && ((pipe_def program q).reader.0 == t)
 
--- 0 for off, else the tick at which a timer is due, plus 1
-abbrev pub due_word : Option ℕ → ℕ
-due_word None = 0
-due_word (Some due) = due + 1
+abbrev pub owns_timer : Program → (t j : ℕ) → Bool
+owns_timer program t j = nat_lt j (length program.timers) && ((timer_def program j).thread.0 == t)
 
 -- the items that were sent to a pipe, in the block of its writer, and those that were taken, in that of its reader
 abbrev pub written_word : Program → Model → ℕ → ℕ → ℕ
-written_word program m t q = if nat_lt q (length program.pipes) && ((pipe_def program q).writer.0 == t) then (pipe_of m q).taken + length (pipe_of m q).items else 0
+written_word program m t q = if writes_pipe program t q then (pipe_of m q).taken + length (pipe_of m q).items else 0
 
 abbrev pub taken_word : Program → Model → ℕ → ℕ → ℕ
-taken_word program m t q = if nat_lt q (length program.pipes) && ((pipe_def program q).reader.0 == t) then (pipe_of m q).taken else 0
+taken_word program m t q = if reads_pipe program t q then (pipe_of m q).taken else 0
 
 -- a timer's word and its period, in the block of its thread
 abbrev pub timer_word : Program → Model → ℕ → ℕ → ℕ
-timer_word program m t j = if nat_lt j (length program.timers) && ((timer_def program j).thread.0 == t) then due_word (timer_of m j).due else 0
+timer_word program m t j = if owns_timer program t j then due_word (timer_of m j).due else 0
 
 abbrev pub period_word : Program → Model → ℕ → ℕ → ℕ
-period_word program m t j = if nat_lt j (length program.timers) && ((timer_def program j).thread.0 == t) then (timer_of m j).period else 0
+period_word program m t j = if owns_timer program t j then (timer_of m j).period else 0
 
 -- what a thread's own words say of it: nothing that another thread or a source changes
 pub record Saved : Type 0 where
@@ -90,9 +86,6 @@ thread_words y stamp origin value =
     ∷ y.due 4 ∷ y.period 4 ∷ y.due 5 ∷ y.period 5 ∷ y.due 6 ∷ y.period 6 ∷ y.due 7 ∷ y.period 7
     ∷ 0 ∷ 0 ∷ 0 ∷ 0 ∷ 0 ∷ 0 ∷ y.state
 
-abbrev pub output_word : Output → ℕ
-output_word o = o.stamp * 2 ^ 32 + o.value
-
 -- the log of a thread
 abbrev pub log_of : Memory → ℕ → ℕ → ℕ
 log_of words t n = words (Log t n)
@@ -119,8 +112,8 @@ StandsPipe words program m q =
 pub record StandsPrivate (words : Memory) (program : Program) (m : Model) : Type 0 where
   pub code : (x n : ℕ) → x < length program.tasks → n < length (task_def program x).code → words (Code x n) ≡ word_of_instr (instr_at (task_def program x) n)
   pub threads : (t : ℕ) → t < length program.threads → StandsThread words program m t
-  pub stamps : (t : ℕ) → t < length program.threads → committed words t 0 ≤ m.commits
-  pub newest : (m.commits ≡ 0) ⊎ ((t : ℕ) × (t < length program.threads) × (committed words t 0 ≡ m.commits))
+  pub stamps : (t : ℕ) → t < length program.threads → committed words t header.stamp ≤ m.commits
+  pub newest : (m.commits ≡ 0) ⊎ ((t : ℕ) × (t < length program.threads) × (committed words t header.stamp ≡ m.commits))
   pub pipes : (q : ℕ) → q < length program.pipes → StandsPipe words program m q
 
 -- the slots of a thread's queue

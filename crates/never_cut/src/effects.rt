@@ -18,7 +18,7 @@ use task_isa::Program;
 
 impl Replaying {
     /// Makes the effect of a legal entry.
-    pub fn apply(
+    pub(crate) fn apply(
         &mut self,
         alloc: Global,
         program: &Program,
@@ -44,7 +44,7 @@ impl Replaying {
         Ok(())
     }
 
-    pub fn push(
+    pub(crate) fn push(
         &mut self,
         program: &Program,
         readings: &[Items<u32>],
@@ -93,7 +93,7 @@ impl Replaying {
         Ok(())
     }
 
-    pub fn refuse(&mut self, program: &Program, source: SourceId)
+    pub(crate) fn refuse(&mut self, program: &Program, source: SourceId)
         requires room { HasRoom program.now (model_of self.old) }
         requires there { source.0 < length program.now.sources }
         ensures { model_of self.new ≡ effect program.now [] (model_of self.old) (Entry.Refuse source) }
@@ -103,7 +103,7 @@ impl Replaying {
         self.sources[i] = SourceModel { refused: true, ..s };
     }
 
-    pub fn skip(&mut self, program: &Program, source: SourceId)
+    pub(crate) fn skip(&mut self, program: &Program, source: SourceId)
         requires room { HasRoom program.now (model_of self.old) }
         requires there { source.0 < length program.now.sources }
         ensures { model_of self.new ≡ effect program.now [] (model_of self.old) (Entry.Skip source) }
@@ -117,14 +117,14 @@ impl Replaying {
         };
     }
 
-    pub fn tick(&mut self, by: u64)
+    pub(crate) fn tick(&mut self, by: u64)
         requires { self.old.clock + by < 2 ^ 47 }
         ensures { model_of self.new ≡ record (model_of self.old) { clock = self.old.clock + by } }
     {
         self.clock += by;
     }
 
-    pub fn begin_scan(&mut self, alloc: Global)
+    pub(crate) fn begin_scan(&mut self, alloc: Global)
         ensures { model_of self.new ≡ record (model_of self.old) { scan = Some (record { time = self.old.clock; looked = [] }) } }
     {
         match &mut self.scan {
@@ -141,7 +141,7 @@ impl Replaying {
         }
     }
 
-    pub fn look(&mut self, program: &Program, thread: ThreadId) -> Result<(), NoMemory>
+    pub(crate) fn look(&mut self, program: &Program, thread: ThreadId) -> Result<(), NoMemory>
         ensures { IfOk result (λ _. model_of self.new ≡ effect program.now [] (model_of self.old) (Entry.Look thread)) }
     {
         if let Some(scan) = &mut self.scan {
@@ -150,7 +150,7 @@ impl Replaying {
         Ok(())
     }
 
-    pub fn release(&mut self, program: &Program, thread: ThreadId)
+    pub(crate) fn release(&mut self, program: &Program, thread: ThreadId)
         requires room { HasRoom program.now (model_of self.old) }
         requires there { thread.0 < length program.now.threads }
         ensures { model_of self.new ≡ effect program.now [] (model_of self.old) (Entry.Release thread) }

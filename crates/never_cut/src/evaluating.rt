@@ -17,7 +17,7 @@ use task_isa::{PipeDef, Program, Task, TaskEnd, TaskStart, eval_task};
 
 impl Replaying {
     /// What the task that serves an event leaves behind.
-    pub fn evaluate(
+    pub(crate) fn evaluate(
         &self,
         alloc: Global,
         program: &Program,

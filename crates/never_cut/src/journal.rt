@@ -9,6 +9,7 @@ ghost use Rattle.never_cut.specs.Start.{CanStart};
 ghost use Rattle.never_cut.specs.State.{open_model};
 ghost use Rattle.never_cut.specs.Within.{AreReadings};
 
+use crate::entered::Entered;
 use crate::model::Model;
 use crate::replay_fault::ReplayFault;
 use crate::replaying::Replaying;
@@ -40,8 +41,37 @@ pub fn replay(
     // An index is told exactly of the first entry that isn't legal.
     ensures illegal { IfErr result (TellsIllegal program.now readings.now (open_model program.now) entries.now) }
 {
-    let state = Replaying::open(alloc, program.program())?;
-    replay_on(alloc, state, program, readings, entries)
+    let start = Replaying::open(alloc, program.program())?;
+    replay_on(alloc, start, program, readings, entries)
+}
+
+/// The state after these entries from a first one on, at which a run can begin: that of the first image, or one that another run left.
+/// The readings of a source are counted from its first one, those that the first state has settled included.
+pub fn replay_from(
+    alloc: Global,
+    first: &Model,
+    program: &Accepted,
+    readings: &[Items<u32>],
+    entries: &[Entry],
+) -> Result<Model, ReplayFault>
+    requires readings { AreReadings program.now readings.now }
+    requires few { length entries.now < 2 ^ 32 }
+    requires start { CanStart program.now readings.now first.now }
+    ensures legal { IfOk result (λ _. IsLegal program.now readings.now first.now entries.now) }
+    ensures state { IfOk result (λ m. m ≡ after program.now readings.now first.now entries.now) }
+
+    // What every accepted list tells: each reading is settled once and in order; each event of a queue is finished once and in order, or is
+    // still held; a thread's state is what its own commits made of it; each output is stamped with the number of a commit of its thread.
+    ensures in_order { IfOk result (λ _. ReadingsInOrder program.now readings.now first.now entries.now) }
+    ensures each_once { IfOk result (λ _. EachEventOnce program.now readings.now first.now entries.now) }
+    ensures states { IfOk result (λ _. StatesByCommits program.now readings.now first.now entries.now) }
+    ensures stamps { IfOk result (λ _. StampsByCommits program.now readings.now first.now entries.now) }
+
+    // An index is told exactly of the first entry that isn't legal.
+    ensures illegal { IfErr result (TellsIllegal program.now readings.now first.now entries.now) }
+{
+    let start = Replaying::begin(alloc, first)?;
+    replay_on(alloc, start, program, readings, entries)
 }
 
 // The state after these entries, from a first one on, at which a run can begin.
@@ -66,10 +96,10 @@ fn replay_on(
     let program = program.program();
     let mut state = first;
     for (n, entry) in entries.iter().enumerate() {
-        if !state.may(program, readings, *entry) {
-            return Err(ReplayFault::Illegal(n as u32));
+        match state.step(alloc, program, readings, *entry)? {
+            Entered::Made => {}
+            Entered::Illegal => return Err(ReplayFault::Illegal(n as u32)),
         }
-        state.apply(alloc, program, readings, *entry)?;
     }
     Ok(state.into_model())
 }

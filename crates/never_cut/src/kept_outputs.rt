@@ -24,6 +24,17 @@ pub(crate) fn no_outputs(alloc: Global) -> KeptOutputs
     }
 }
 
+/// These outputs, in their order.
+pub(crate) fn keep_outputs(alloc: Global, outputs: &[Output]) -> Result<KeptOutputs, NoMemory>
+    ensures { IfOk result (λ kept. kept.list.items ≡ outputs.now) }
+{
+    let mut kept = no_outputs(alloc);
+    for output in outputs {
+        put_one(&mut kept, *output)?;
+    }
+    Ok(kept)
+}
+
 /// How many outputs a thread has.
 pub(crate) fn count_of(outputs: &KeptOutputs, thread: ThreadId) -> u64
     ensures { result ≡ length (outputs_in thread.0 outputs.now.list.items) }

@@ -16,7 +16,7 @@ use task_isa::Program;
 
 impl Replaying {
     /// Whether an entry is legal in this state.
-    pub fn may(&self, program: &Program, readings: &[Items<u32>], entry: Entry) -> bool
+    pub(crate) fn may(&self, program: &Program, readings: &[Items<u32>], entry: Entry) -> bool
         requires accepted { IsAccepted program.now }
         requires readings { AreReadings program.now readings.now }
         requires room { HasRoom program.now (model_of self.now) }

@@ -1,10 +1,15 @@
 //! The kernel that is never cut: its state, the journal of a run, and the state after it.
 #![tactic(auto)]
 
+mod copying;
 mod effects;
+mod entered;
+mod entering;
 mod evaluating;
+mod images;
 mod journal;
 mod kept_outputs;
+mod laws;
 mod legal;
 mod model;
 mod opening;
@@ -19,10 +24,14 @@ mod source_model;
 mod thread_model;
 mod timer_model;
 
-pub use journal::replay;
+pub use entered::Entered;
+pub use images::images_stand;
+pub use journal::{replay, replay_from};
+pub use laws::{devices_stand, journals_keep};
 pub use model::Model;
 pub use pipe_model::PipeModel;
 pub use replay_fault::ReplayFault;
+pub use replaying::Replaying;
 pub use scan_model::ScanModel;
 pub use source_model::SourceModel;
 pub use thread_model::ThreadModel;

@@ -17,7 +17,7 @@ use task_isa::{PipeDef, Program, ThreadDef, TimerDef};
 
 impl Replaying {
     /// The state at the start.
-    pub fn open(alloc: Global, program: &Program) -> Result<Replaying, NoMemory>
+    pub(crate) fn open(alloc: Global, program: &Program) -> Result<Replaying, NoMemory>
         ensures { IfOk result (λ r. model_of r ≡ open_model program.now) }
     {
         Ok(Replaying {

@@ -15,7 +15,7 @@ use task_isa::Program;
 
 impl Replaying {
     /// The pending event of a thread, where there is a scan.
-    pub fn pending(&self, program: &Program, t: usize) -> Option<Event>
+    pub(crate) fn pending(&self, program: &Program, t: usize) -> Option<Event>
         requires accepted { IsAccepted program.now }
         requires room { HasRoom program.now (model_of self.now) }
         requires thread { t < length program.now.threads }
@@ -47,7 +47,7 @@ impl Replaying {
     }
 
     /// The first item of the lowest pipe that the thread reads and that has one, else the lowest timer of the thread that is due.
-    pub fn later_event(&self, program: &Program, t: usize, time: u64) -> Option<Event>
+    pub(crate) fn later_event(&self, program: &Program, t: usize, time: u64) -> Option<Event>
         requires accepted { IsAccepted program.now }
         requires room { HasRoom program.now (model_of self.now) }
         ensures { result ≡ later_event program.now (model_of self.now) t time }

@@ -1,4 +1,4 @@
-//! The state that a replay works on.
+//! A journal that is replayed entry by entry.
 
 ghost use Rattle.std.specs.Prelude.{◌≡◌, ◌<◌, length};
 ghost use Rattle.never_cut.specs.State.{thread_of, pipe_of, timer_of, source_of};
@@ -13,35 +13,36 @@ use crate::thread_model::ThreadModel;
 use crate::timer_model::TimerModel;
 use sqlite_items::Items;
 
-/// A state of the never-cut kernel that changes in place.
+/// An open replay: the state of the never-cut kernel after the entries that were entered so far. It begins at a state, and the effect
+/// of each entry that is legal is made in place. Contracts see the state by `model_of`.
 #[derive(Drop)]
-pub(crate) struct Replaying {
-    pub threads: Vec<ThreadModel>,
-    pub pipes: Vec<PipeModel>,
-    pub timers: Vec<TimerModel>,
-    pub sources: Vec<SourceModel>,
-    pub clock: u64,
-    pub outputs: KeptOutputs,
-    pub commits: u64,
-    pub scan: Option<ScanModel>,
+pub struct Replaying {
+    pub(crate) threads: Vec<ThreadModel>,
+    pub(crate) pipes: Vec<PipeModel>,
+    pub(crate) timers: Vec<TimerModel>,
+    pub(crate) sources: Vec<SourceModel>,
+    pub(crate) clock: u64,
+    pub(crate) outputs: KeptOutputs,
+    pub(crate) commits: u64,
+    pub(crate) scan: Option<ScanModel>,
 }
 
 impl Replaying {
-    pub fn thread(&self, t: usize) -> &ThreadModel
+    pub(crate) fn thread(&self, t: usize) -> &ThreadModel
         requires { t < length self.now.threads.items }
         ensures { result.now ≡ thread_of (model_of self.now) t }
     {
         &self.threads[t]
     }
 
-    pub fn pipe(&self, q: usize) -> &PipeModel
+    pub(crate) fn pipe(&self, q: usize) -> &PipeModel
         requires { q < length self.now.pipes.items }
         ensures { result.now ≡ pipe_of (model_of self.now) q }
     {
         &self.pipes[q]
     }
 
-    pub fn timer(&self, j: usize) -> TimerModel
+    pub(crate) fn timer(&self, j: usize) -> TimerModel
         ensures { result ≡ timer_of (model_of self.now) j }
     {
         let no_timer = TimerModel {
@@ -51,7 +52,7 @@ impl Replaying {
         self.timers.get(j).copied().unwrap_or(no_timer)
     }
 
-    pub fn source(&self, i: usize) -> SourceModel
+    pub(crate) fn source(&self, i: usize) -> SourceModel
         ensures { result ≡ source_of (model_of self.now) i }
     {
         let no_source = SourceModel {
@@ -62,7 +63,7 @@ impl Replaying {
         self.sources.get(i).copied().unwrap_or(no_source)
     }
 
-    /// The state as others see it.
+    /// The state after the entries so far.
     pub fn into_model(self) -> Model
         ensures { result ≡ model_of self }
     {

@@ -16,7 +16,7 @@ use task_isa::{Program, TaskEnd};
 
 impl Replaying {
     /// Commits a thread with its pending event. Without a scan or a pending event nothing changes.
-    pub fn commit(
+    pub(crate) fn commit(
         &mut self,
         alloc: Global,
         program: &Program,

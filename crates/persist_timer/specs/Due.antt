@@ -1,9 +1,6 @@
 -- A timer by its word, which is 0 for off and else the tick at which it is due, plus 1; and when a chain has run too long.
-use Rattle.std.specs.Prelude.{ℕ, ◌+◌, ◌-◌, ◌==◌, ◌&&◌, nat_lt, nat_le, Bool, if◌then◌else◌, Option, Some, None}
-
--- the tick at which a timer with this word is due
-abbrev pub due_at : (word : ℕ) → Option ℕ
-due_at word = if word == 0 then None else Some (word - 1)
+use Rattle.std.specs.Prelude.{ℕ, ◌+◌, ◌-◌, ◌==◌, ◌&&◌, nat_lt, nat_le, Bool, if◌then◌else◌, Some}
+use Rattle.fram_words.specs.Held.{due_word}
 
 -- due at or before a time
 abbrev pub is_due : (word time : ℕ) → Bool
@@ -15,7 +12,7 @@ after_service word period = if period == 0 then 0 else word + period
 
 -- the word of a timer that is set at a time, to be due after a delay
 abbrev pub armed : (time delay : ℕ) → ℕ
-armed time delay = time + delay + 1
+armed time delay = due_word (Some (time + delay))
 
 -- more ticks went by since the chain's first commit than it may take
 abbrev pub is_expired : (expires first time : ℕ) → Bool

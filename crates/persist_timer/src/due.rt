@@ -1,12 +1,15 @@
 //! A timer by its word: 0 for off, else the tick at which it is due, plus 1.
 ghost use Rattle.std.specs.Prelude.{◌≡◌, ◌≤◌, ◌<◌, ◌^◌};
+ghost use Rattle.fram_words.specs.Held.{due_of};
 ghost use Rattle.persist_timer.specs.Due as due;
+
+use fram_words::{due_word, read_due};
 
 /// The tick at which a timer with this word is due; none exactly where the word is 0, and the timer is off.
 pub fn due_at(word: u64) -> Option<u64>
-    ensures { result ≡ due.due_at word }
+    ensures { result ≡ due_of word }
 {
-    word.checked_sub(1)
+    read_due(word)
 }
 
 /// Whether a timer with this word is due at a time in ticks: at or before it.
@@ -31,7 +34,7 @@ pub fn armed(time: u64, delay: u32) -> u64
     requires { time < 2 ^ 48 }
     ensures { result ≡ due.armed time delay }
 {
-    time + delay as u64 + 1
+    due_word(Some(time + delay as u64))
 }
 
 /// Whether a chain with its first commit at `first` has run for more ticks, at a time, than it may.

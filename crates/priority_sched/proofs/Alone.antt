@@ -24,14 +24,16 @@ use Rattle.priority_sched.specs.declared.scan_at.ScanAt.TheVariants.{Clock, Comm
 use Rattle.priority_sched.specs.declared.machine.ScanMachine.{ScanMachine}
 use Rattle.priority_sched.specs.Order.{next_below, priority_of}
 use Rattle.priority_sched.specs.Picks.{chain_pick}
-use Rattle.priority_sched.specs.Scan.{running_of, origin_of, event_at, is_reader, is_owner, next_pipe, next_timer, scan_next, at_pipe, at_timer, after_finished, after_value, after_look, after_timer, scan_wants, scan_takes, IsScanRow, IsScan}
+use Rattle.priority_sched.specs.Scan.{event_at, is_reader, is_owner, next_pipe, next_timer, scan_next, at_pipe, at_timer, after_finished, after_value, after_look, after_timer, scan_wants, scan_takes, IsScanRow, IsScan}
 use Rattle.priority_sched.specs.Reached.{scan_loaded, IsChainOf, IsRowOf, IsScanOf}
-use Rattle.priority_sched.proofs.Origins.{HasOriginBits, origin_of-origin_word}
+use Rattle.fram_words.proofs.ReadBack.{origin_of-origin_word}
+use Rattle.fram_words.specs.Held.{running_of, origin_of, HasOriginBits}
+use Rattle.fram_words.specs.Header as header
 use Rattle.priority_sched.proofs.Searches.{IsSearched, searched}
 
--- a header word by its number
-header : (w : ℕ) → 8 * (w / 8) + w % 8 ≡ w
-header w = omega arith
+-- a word of a block by its page and its number there
+whole_word : (w : ℕ) → 8 * (w / 8) + w % 8 ≡ w
+whole_word w = omega arith
 
 -- of a program's pipe or timer there are at most eight
 few_pipes : (program : Program) (q : ℕ) → IsAccepted program → q < length program.pipes → q < 8
@@ -183,7 +185,7 @@ module _ (program : Program) (thread : ThreadId) (time : ℕ) (accepted : IsAcce
   row_in (Timer idle timer) word fits row h = timer_in
     where
       low : word ≤ 2 ^ 48
-      low = h.due timer.0 (few_timers program timer.0 accepted fits) (header (26 + 2 * timer.0))
+      low = h.due timer.0 (few_timers program timer.0 accepted fits) (whole_word (header.due timer.0))
 
       timer_in : IsIn program (after_timer program thread time idle timer word)
       timer_in =

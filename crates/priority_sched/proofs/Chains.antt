@@ -9,6 +9,7 @@ use Rattle.ink_base.specs.declared.event.Origin as origin
 use Rattle.ink_base.specs.declared.event.Origin.TheVariants as origins
 use Rattle.task_isa.specs.declared.program.Program.{Program}
 use Rattle.fram_words.specs.Places.{Memory}
+use Rattle.fram_words.specs.Header as header
 use Rattle.thread_state.specs.Pages.{place_in}
 use Rattle.prog_check.specs.Accepted.{IsAccepted}
 use Rattle.prog_check.specs.Lookup.{thread_def}
@@ -25,9 +26,10 @@ use Rattle.never_cut.proofs.Picks.{pending-running}
 use Rattle.priority_sched.specs.declared.chain.Chain.{Chain}
 use Rattle.priority_sched.specs.declared.scan_at.ScanAt.TheVariants.{Origin, Value, First, Picked}
 use Rattle.priority_sched.specs.Picks.{chain_pick}
-use Rattle.priority_sched.specs.Scan.{scan_at, after_value, origin_of}
+use Rattle.priority_sched.specs.Scan.{scan_at, after_value}
 use Rattle.priority_sched.specs.Knows.{KnowsChain, HasOrigin, ScanHolds}
-use Rattle.priority_sched.proofs.Origins.{HasOriginBits, origin_of-origin_word}
+use Rattle.fram_words.proofs.ReadBack.{origin_of-origin_word}
+use Rattle.fram_words.specs.Held.{origin_of, HasOriginBits}
 use Rattle.priority_sched.proofs.Words.{first_word, event_words}
 
 -- the running chain of a sound state
@@ -83,7 +85,7 @@ served_first program m t (origins.Timer timer deadline) value h is = absurd cc
 -- the word of the event's origin
 pub origin_holds : (program : Program) (readings : Readings) (words : Memory) (m : Model) (thread : ThreadId) (time : ℕ) (chain : Chain) → Background program readings words m →
     Lasts 0 m → ScanHolds program words m (scan_at thread time (Origin chain)) →
-    ScanHolds program words m (scan_at thread time (Value chain (origin_of (words (place_in thread.0 chain.commit_word 3)))))
+    ScanHolds program words m (scan_at thread time (Value chain (origin_of (words (place_in thread.0 chain.commit_word header.origin)))))
 origin_holds program readings words m thread time chain b few h =
     let k : KnowsChain program words m thread.0 time chain = h.knows in
     let found = sound_chain program readings m thread.0 chain.running b.sound h.known k.running in
@@ -97,7 +99,7 @@ origin_holds program readings words m thread time chain b few h =
         (
           e,
           found.is,
-          ap (λ c. origin_of (words (place_in thread.0 c 3))) k.commit_word
+          ap (λ c. origin_of (words (place_in thread.0 c header.origin))) k.commit_word
               ∙ (ap origin_of (event_words program words m thread.0 e h.known b.private found.is).0 ∙ origin_of-origin_word e.origin bits.0),
         ),
       );
@@ -105,9 +107,9 @@ origin_holds program readings words m thread time chain b few h =
 
 -- the value of the event
 pub value_word : (program : Program) (readings : Readings) (words : Memory) (m : Model) (t time : ℕ) (chain : Chain) (e : Event) → Background program readings words m →
-    t < length program.threads → KnowsChain program words m t time chain → (thread_of m t).event ≡ Some e → words (place_in t chain.commit_word 4) ≡ e.value
+    t < length program.threads → KnowsChain program words m t time chain → (thread_of m t).event ≡ Some e → words (place_in t chain.commit_word header.value) ≡ e.value
 value_word program readings words m t time chain e b known k is =
-    ap (λ c. words (place_in t c 4)) k.commit_word ∙ (event_words program words m t e known b.private is).1
+    ap (λ c. words (place_in t c header.value)) k.commit_word ∙ (event_words program words m t e known b.private is).1
 
 -- the running chain is picked
 chain_picked : (program : Program) (readings : Readings) (words : Memory) (m : Model) (thread : ThreadId) (time : ℕ) (chain : Chain) (first : ℕ) (e : Event) →
@@ -146,23 +148,23 @@ after_value_holds program readings words m thread time chain e (Some ticks) expi
 
 pub value_holds : (program : Program) (readings : Readings) (words : Memory) (m : Model) (thread : ThreadId) (time : ℕ) (chain : Chain) (o : origin.Origin) →
     Background program readings words m → ScanHolds program words m (scan_at thread time (Value chain o)) →
-    ScanHolds program words m (after_value thread time chain (record { origin = o; value = words (place_in thread.0 chain.commit_word 4) }) (thread_def program thread.0).expires)
+    ScanHolds program words m (after_value thread time chain (record { origin = o; value = words (place_in thread.0 chain.commit_word header.value) }) (thread_def program thread.0).expires)
 value_holds program readings words m thread time chain o b h =
     let k : KnowsChain program words m thread.0 time chain = h.knows.0 in
     let at : HasOrigin m thread.0 o = h.knows.1 in
     let e : Event = at.0 in
     let is : (thread_of m thread.0).event ≡ Some e = at.1 in
     let same : o ≡ e.origin = at.2 in
-    let value : words (place_in thread.0 chain.commit_word 4) ≡ e.value = value_word program readings words m thread.0 time chain e b h.known k is in
+    let value : words (place_in thread.0 chain.commit_word header.value) ≡ e.value = value_word program readings words m thread.0 time chain e b h.known k is in
     after_value_holds program readings words m thread time chain _ (thread_def program thread.0).expires refl b h.known h.calm k
     (is ∙ (ap (λ (v : ℕ). Some (record { origin = e.origin; value = v })) (sym value)
-    ∙ ap (λ (z : origin.Origin). Some (record { origin = z; value = words (place_in thread.0 chain.commit_word 4) })) (sym same)))
+    ∙ ap (λ (z : origin.Origin). Some (record { origin = z; value = words (place_in thread.0 chain.commit_word header.value) })) (sym same)))
 
 -- the time of the chain's first commit
 pub first_holds : (program : Program) (readings : Readings) (words : Memory) (m : Model) (thread : ThreadId) (time : ℕ) (chain : Chain) (e : Event) →
     Background program readings words m → ScanHolds program words m (scan_at thread time (First chain e)) →
-    ScanHolds program words m (scan_at thread time (Picked (chain_pick thread time chain (words (place_in thread.0 chain.commit_word 2)) e)))
+    ScanHolds program words m (scan_at thread time (Picked (chain_pick thread time chain (words (place_in thread.0 chain.commit_word header.first)) e)))
 first_holds program readings words m thread time chain e b h =
     let k : KnowsChain program words m thread.0 time chain = h.knows.0 in
     chain_picked program readings words m thread time chain _ e b h.known h.calm k h.knows.1
-    (λ ticks some. ap (λ c. words (place_in thread.0 c 2)) k.commit_word ∙ first_word program words m thread.0 h.known b.private)
+    (λ ticks some. ap (λ c. words (place_in thread.0 c header.first)) k.commit_word ∙ first_word program words m thread.0 h.known b.private)

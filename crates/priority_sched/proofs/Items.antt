@@ -8,6 +8,7 @@ use Rattle.ink_base.specs.declared.event.Origin.TheVariants as origins
 use Rattle.task_isa.specs.declared.program.Program.{Program}
 use Rattle.fram_words.specs.Places.{Memory, Ring}
 use Rattle.fram_words.specs.Places as places
+use Rattle.fram_words.specs.Header as header
 use Rattle.event_pipe.specs.Ring.{ring_index}
 use Rattle.thread_state.specs.Pages.{place_in}
 use Rattle.prog_check.specs.Accepted.{IsAccepted}
@@ -31,14 +32,14 @@ use Rattle.priority_sched.proofs.Words.{taken_count, written_count, item_word}
 
 -- the loaded count is that of the taken items
 pub taken_is : (program : Program) (words : Memory) (m : Model) (t time : ℕ) (idle : Idle) (q : ℕ) → IsAccepted program → t < length program.threads →
-    StandsPrivate words program m → KnowsPipe program words m t time idle q → words (place_in t idle.commit_word (18 + q)) ≡ (pipe_of m q).taken
+    StandsPrivate words program m → KnowsPipe program words m t time idle q → words (place_in t idle.commit_word (header.taken q)) ≡ (pipe_of m q).taken
 taken_is program words m t time idle q accepted known private k =
-    ap (λ c. words (place_in t c (18 + q))) k.idle_is.commit_word
+    ap (λ c. words (place_in t c (header.taken q))) k.idle_is.commit_word
     ∙ taken_count program words m t q accepted known private k.known (eqb-true (pipe_def program q).reader.0 t k.reads)
 
 pub taken_holds : (program : Program) (readings : Readings) (words : Memory) (m : Model) (thread : ThreadId) (time : ℕ) (idle : Idle) (pipe : PipeId) →
     Background program readings words m → ScanHolds program words m (scan_at thread time (Taken idle pipe)) →
-    ScanHolds program words m (scan_at thread time (after_taken idle pipe (words (place_in thread.0 idle.commit_word (18 + pipe.0)))))
+    ScanHolds program words m (scan_at thread time (after_taken idle pipe (words (place_in thread.0 idle.commit_word (header.taken pipe.0)))))
 taken_holds program readings words m thread time idle pipe b h = record {
   known = h.known;
   calm = h.calm;
@@ -52,9 +53,9 @@ writer_holds program words m thread time w h = record { known = h.known; calm = 
 -- the loaded count is that of the written items
 pub written_is : (program : Program) (words : Memory) (m : Model) (t time : ℕ) (w : Waiting) (c : ℕ) → IsAccepted program → StandsPrivate words program m →
     KnowsWaiting program words m t time w → c ≡ words (places.Commit (writer_of program w.pipe.0)) →
-    words (place_in (writer_of program w.pipe.0) c (10 + w.pipe.0)) ≡ w.taken + length (pipe_of m w.pipe.0).items
+    words (place_in (writer_of program w.pipe.0) c (header.written w.pipe.0)) ≡ w.taken + length (pipe_of m w.pipe.0).items
 written_is program words m t time w c accepted private k is =
-    ap (λ z. words (place_in (writer_of program w.pipe.0) z (10 + w.pipe.0))) is
+    ap (λ z. words (place_in (writer_of program w.pipe.0) z (header.written w.pipe.0))) is
     ∙ (written_count program words m w.pipe.0 accepted private k.pipe.known ∙ ap (λ z. z + length (pipe_of m w.pipe.0).items) (sym k.taken))
 
 -- a pipe without items has none for its reader
@@ -87,7 +88,7 @@ written_by program words m thread time w written accepted known calm k is =
 
 pub written_holds : (program : Program) (readings : Readings) (words : Memory) (m : Model) (thread : ThreadId) (time : ℕ) (w : Waiting) (c : ℕ) →
     Background program readings words m → ScanHolds program words m (scan_at thread time (Written w c)) →
-    ScanHolds program words m (after_written program thread time w (words (place_in (writer_of program w.pipe.0) c (10 + w.pipe.0))))
+    ScanHolds program words m (after_written program thread time w (words (place_in (writer_of program w.pipe.0) c (header.written w.pipe.0))))
 written_holds program readings words m thread time w c b h =
     written_by program words m thread time w _ b.accepted h.known h.calm h.knows.0 (written_is program words m thread.0 time w c b.accepted b.private h.knows.0 h.knows.1)
 

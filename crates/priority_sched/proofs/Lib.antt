@@ -1,7 +1,6 @@
 pub mod Orders
 pub mod Looked
 pub mod Searches
-pub mod Origins
 pub mod Words
 pub mod Rings
 pub mod Nexts

@@ -6,13 +6,14 @@ use Rattle.ink_base.specs.declared.ids.TaskId.{TaskId}
 use Rattle.ink_base.specs.declared.event.Event.{Event}
 use Rattle.task_isa.specs.declared.program.Program.{Program}
 use Rattle.fram_words.specs.Places.{Memory, Ring, answer}
+use Rattle.fram_words.specs.Header as header
+use Rattle.fram_words.specs.Held.{next_word, due_word}
 use Rattle.event_pipe.specs.Ring.{ring_index}
 use Rattle.thread_state.specs.Pages.{place_in}
 use Rattle.prog_check.specs.Lookup.{pipe_def}
 use Rattle.never_cut.specs.declared.model.Model.{Model}
 use Rattle.never_cut.specs.State.{thread_of, queue_of, pipe_of, timer_of}
 use Rattle.never_cut.specs.Entries.{Readings, IsCalm}
-use Rattle.never_cut.specs.Stands.{next_word, due_word}
 use Rattle.push_core.specs.Queue.{published}
 use Rattle.never_cut.specs.Sound.{IsSound, IsSoundPipe}
 use Rattle.never_cut.specs.Within.{Lasts}
@@ -41,12 +42,12 @@ next_in_range program readings m t (Some task) sound known is =
 -- the value of a chain's event has 32 bits
 value_in_range : (program : Program) (readings : Readings) (words : Memory) (m : Model) (t time : ℕ) (chain : Chain) (e : Event) → Background program readings words m →
     Lasts 0 m → t < length program.threads → KnowsChain program words m t time chain → (thread_of m t).event ≡ Some e →
-    words (place_in t chain.commit_word 4) < 2 ^ 32
+    words (place_in t chain.commit_word header.value) < 2 ^ 32
 value_in_range program readings words m t time chain e b few known k is =
     let served = event_served program readings m t chain.running e b.sound known k.running is in
     let bits = served_bits program readings m t e.origin e.value b.accepted b.sound few known served in
     let small : e.value < 2 ^ 32 = bits.1 in
-    let at : words (place_in t chain.commit_word 4) ≡ e.value = value_word program readings words m t time chain e b known k is in
+    let at : words (place_in t chain.commit_word header.value) ≡ e.value = value_word program readings words m t time chain e b known k is in
     omega arith
 
 -- a timer's word is at most 2 ^ 48
@@ -63,22 +64,22 @@ taken_in_range program readings m q sound few known =
 word_in_range : (program : Program) (readings : Readings) (words : Memory) (m : Model) (t time : ℕ) (at : ScanAt) → Background program readings words m →
     Lasts 0 m → t < length program.threads → IsCalm program m → ScanKnows program words m t time at → IsScanWord program at (answer words (scan_wants program t at))
 word_in_range program readings words m t time (Running c) b few known calm h =
-    let at : words (place_in t c 1) ≡ next_word (thread_of m t).running = ap (λ k. words (place_in t k 1)) h.1 ∙ running_word program words m t known b.private in
+    let at : words (place_in t c header.next) ≡ next_word (thread_of m t).running = ap (λ k. words (place_in t k header.next)) h.1 ∙ running_word program words m t known b.private in
     let low : next_word (thread_of m t).running ≤ length program.tasks = next_in_range program readings m t (thread_of m t).running b.sound known refl in
     omega arith
 word_in_range program readings words m t time (Finished c running) b few known calm h =
     let small : published (queue_of (thread_of m t)) < 2 ^ 20 = b.shared.small t known in
-    let at : words (place_in t c 5) ≡ (thread_of m t).released = calm_word program readings words m t c b known calm h.1 in omega arith
+    let at : words (place_in t c header.finished) ≡ (thread_of m t).released = calm_word program readings words m t c b known calm h.1 in omega arith
 word_in_range program readings words m t time (Value chain o) b few known calm h =
     let at : HasOrigin m t o = h.1 in value_in_range program readings words m t time chain at.0 b few known h.0 at.1
 word_in_range program readings words m t time (Taken idle pipe) b few known calm h =
-    let at : words (place_in t idle.commit_word (18 + pipe.0)) ≡ (pipe_of m pipe.0).taken = taken_is program words m t time idle pipe.0 b.accepted known b.private h in
+    let at : words (place_in t idle.commit_word (header.taken pipe.0)) ≡ (pipe_of m pipe.0).taken = taken_is program words m t time idle pipe.0 b.accepted known b.private h in
     let low : (pipe_of m pipe.0).taken < 2 ^ 32 = taken_in_range program readings m pipe.0 b.sound few h.known in omega arith
 word_in_range program readings words m t time (Written w c) b few known calm h =
     let k : KnowsWaiting program words m t time w = h.0 in
     let pipe : IsSoundPipe program m w.pipe.0 = b.sound.pipes w.pipe.0 k.pipe.known in
     let room : length (pipe_of m w.pipe.0).items ≤ (pipe_def program w.pipe.0).places = pipe.room in
-    let at : words (place_in (writer_of program w.pipe.0) c (10 + w.pipe.0)) ≡ w.taken + length (pipe_of m w.pipe.0).items =
+    let at : words (place_in (writer_of program w.pipe.0) c (header.written w.pipe.0)) ≡ w.taken + length (pipe_of m w.pipe.0).items =
     written_is program words m t time w c b.accepted b.private k h.1 in
     (omega arith, omega arith)
 word_in_range program readings words m t time (Item w) b few known calm h =
@@ -91,7 +92,7 @@ word_in_range program readings words m t time (Timer idle timer) b few known cal
     let k : KnowsTimer program words m t time idle timer.0 = h in
     let sound = b.sound.timers timer.0 k.known in
     let low : due_word (timer_of m timer.0).due ≤ 2 ^ 48 = due_in_range (timer_of m timer.0).due sound.due in
-    let at : words (place_in t idle.commit_word (26 + 2 * timer.0)) ≡ due_word (timer_of m timer.0).due =
+    let at : words (place_in t idle.commit_word (header.due timer.0)) ≡ due_word (timer_of m timer.0).due =
     timer_is program words m t time idle timer.0 b.accepted known b.private k in omega arith
 word_in_range program readings words m t time Clock b few known calm h = tt
 word_in_range program readings words m t time Commit b few known calm h = tt

@@ -5,6 +5,7 @@ use Rattle.ink_base.specs.declared.ids.TaskId.{TaskId}
 use Rattle.task_isa.specs.declared.program.Program.{Program}
 use Rattle.fram_words.specs.Places.{Memory, Load}
 use Rattle.fram_words.specs.Places as places
+use Rattle.fram_words.specs.Header as header
 use Rattle.event_pipe.specs.Ring.{ring_index}
 use Rattle.thread_state.specs.Pages.{place_in}
 use Rattle.prog_check.specs.Lookup.{pipe_def}
@@ -21,9 +22,10 @@ use Rattle.priority_sched.specs.declared.scan_at.ScanAt.{ScanAt}
 use Rattle.priority_sched.specs.declared.scan_at.ScanAt.TheVariants.{Clock, Commit, Running, Finished, Origin, Value, First, Slot, Taken, Writer, Written, Item, Timer, Picked, Quiet}
 use Rattle.priority_sched.specs.declared.machine.ScanMachine.{ScanMachine}
 use Rattle.priority_sched.specs.Order.{priority_of}
-use Rattle.priority_sched.specs.Scan.{scan_at, scan_begun, after_finished, running_of, writer_of}
+use Rattle.priority_sched.specs.Scan.{scan_at, scan_begun, after_finished, writer_of}
 use Rattle.priority_sched.specs.Knows.{ScanHolds, ScanStep}
-use Rattle.priority_sched.proofs.Origins.{running_of-next_word}
+use Rattle.fram_words.proofs.ReadBack.{running_of-next_word}
+use Rattle.fram_words.specs.Held.{running_of}
 use Rattle.priority_sched.proofs.Nexts.{goes_on}
 use Rattle.priority_sched.proofs.Looks.{load_kept, slot_step}
 use Rattle.priority_sched.proofs.Chains.{origin_holds, value_holds, first_holds}
@@ -61,22 +63,22 @@ clock_step program readings words m thread time b h =
 
 -- the word that tells the next task
 pub running_is : (program : Program) (readings : Readings) (words : Memory) (m : Model) (t c : ℕ) → Background program readings words m → t < length program.threads →
-    c ≡ words (places.Commit t) → running_of (words (place_in t c 1)) ≡ (thread_of m t).running
+    c ≡ words (places.Commit t) → running_of (words (place_in t c header.next)) ≡ (thread_of m t).running
 running_is program readings words m t c b known is =
-    ap (λ k. running_of (words (place_in t k 1))) is
+    ap (λ k. running_of (words (place_in t k header.next))) is
     ∙ (ap running_of (running_word program words m t known b.private) ∙ running_of-next_word (thread_of m t).running)
 
 -- in a calm state all finished events are released
 pub calm_word : (program : Program) (readings : Readings) (words : Memory) (m : Model) (t c : ℕ) → Background program readings words m → t < length program.threads →
-    IsCalm program m → c ≡ words (places.Commit t) → words (place_in t c 5) ≡ (thread_of m t).released
+    IsCalm program m → c ≡ words (places.Commit t) → words (place_in t c header.finished) ≡ (thread_of m t).released
 calm_word program readings words m t c b known calm is =
-    ap (λ k. words (place_in t k 5)) is
+    ap (λ k. words (place_in t k header.finished)) is
     ∙ (finished_word program words m t known b.private
     ∙ (ap (λ z. (thread_of m t).released + flag z) (calm t known) ∙ (let e : (thread_of m t).released + 0 ≡ (thread_of m t).released = omega arith in e)))
 
 -- the number of finished events
 finished_holds : (program : Program) (readings : Readings) (words : Memory) (m : Model) (thread : ThreadId) (time c : ℕ) (running : Option TaskId) → Background program readings words m →
-    ScanHolds program words m (scan_at thread time (Finished c running)) → ScanHolds program words m (after_finished thread time c (words (place_in thread.0 c 5)) running)
+    ScanHolds program words m (scan_at thread time (Finished c running)) → ScanHolds program words m (after_finished thread time c (words (place_in thread.0 c header.finished)) running)
 finished_holds program readings words m thread time c (Some task) b h = record {
   known = h.known;
   calm = h.calm;
@@ -105,28 +107,28 @@ scan_keeps program readings words m scan b few h = by_row scan.at h
     by_row Clock h = clock_step program readings words m scan.thread scan.time b h
     by_row Commit h = record { kept = kept (places.Commit scan.thread.0); holds = record { known = h.known; calm = h.calm; knows = (h.knows, refl) } }
     by_row (Running c) h = record {
-      kept = kept (place_in scan.thread.0 c 1);
+      kept = kept (place_in scan.thread.0 c header.next);
       holds = record { known = h.known; calm = h.calm; knows = (h.knows.0, h.knows.1, running_is program readings words m scan.thread.0 c b h.known h.knows.1) };
     }
     by_row (Finished c running) h = record {
-      kept = kept (place_in scan.thread.0 c 5);
+      kept = kept (place_in scan.thread.0 c header.finished);
       holds = finished_holds program readings words m scan.thread scan.time c running b h;
     }
     by_row (Origin chain) h = record {
-      kept = kept (place_in scan.thread.0 chain.commit_word 3);
+      kept = kept (place_in scan.thread.0 chain.commit_word header.origin);
       holds = origin_holds program readings words m scan.thread scan.time chain b few h;
     }
     by_row (Value chain o) h = record {
-      kept = kept (place_in scan.thread.0 chain.commit_word 4);
+      kept = kept (place_in scan.thread.0 chain.commit_word header.value);
       holds = value_holds program readings words m scan.thread scan.time chain o b h;
     }
     by_row (First chain e) h = record {
-      kept = kept (place_in scan.thread.0 chain.commit_word 2);
+      kept = kept (place_in scan.thread.0 chain.commit_word header.first);
       holds = first_holds program readings words m scan.thread scan.time chain e b h;
     }
     by_row (Slot c p) h = slot_step program readings words m scan.thread scan.time c p b h
     by_row (Taken idle pipe) h = record {
-      kept = kept (place_in scan.thread.0 idle.commit_word (18 + pipe.0));
+      kept = kept (place_in scan.thread.0 idle.commit_word (header.taken pipe.0));
       holds = taken_holds program readings words m scan.thread scan.time idle pipe b h;
     }
     by_row (Writer w) h = record {
@@ -134,7 +136,7 @@ scan_keeps program readings words m scan b few h = by_row scan.at h
       holds = writer_holds program words m scan.thread scan.time w h;
     }
     by_row (Written w c) h = record {
-      kept = kept (place_in (writer_of program w.pipe.0) c (10 + w.pipe.0));
+      kept = kept (place_in (writer_of program w.pipe.0) c (header.written w.pipe.0));
       holds = written_holds program readings words m scan.thread scan.time w c b h;
     }
     by_row (Item w) h = record {
@@ -142,7 +144,7 @@ scan_keeps program readings words m scan b few h = by_row scan.at h
       holds = item_holds program readings words m scan.thread scan.time w b h;
     }
     by_row (Timer idle timer) h = record {
-      kept = kept (place_in scan.thread.0 idle.commit_word (26 + 2 * timer.0));
+      kept = kept (place_in scan.thread.0 idle.commit_word (header.due timer.0));
       holds = timer_holds program readings words m scan.thread scan.time idle timer b h;
     }
     by_row (Picked pick) h = record { kept = kept places.Clock; holds = h }

@@ -6,6 +6,8 @@ use Rattle.ink_base.specs.declared.ids.ThreadId.{ThreadId}
 use Rattle.ink_base.specs.declared.ids.TimerId.{TimerId}
 use Rattle.task_isa.specs.declared.program.Program.{Program}
 use Rattle.fram_words.specs.Places.{Memory}
+use Rattle.fram_words.specs.Header as header
+use Rattle.fram_words.specs.Held.{due_word}
 use Rattle.persist_timer.specs.Due.{is_due}
 use Rattle.thread_state.specs.Pages.{place_in}
 use Rattle.prog_check.specs.Accepted.{IsAccepted}
@@ -14,7 +16,7 @@ use Rattle.never_cut.specs.declared.model.Model.{Model}
 use Rattle.never_cut.specs.State.{timer_of}
 use Rattle.never_cut.specs.Pending.{first_number, pending, has_item, has_due, is_due_by, due_event, timer_event}
 use Rattle.never_cut.specs.Entries.{Readings, IsCalm}
-use Rattle.never_cut.specs.Stands.{due_word, StandsPrivate}
+use Rattle.never_cut.specs.Stands.{StandsPrivate}
 use Rattle.never_cut.specs.Steps.{Background}
 use Rattle.never_cut.proofs.Picks.{pending-later}
 use Rattle.priority_sched.specs.declared.idle.Idle.{Idle}
@@ -28,9 +30,9 @@ use Rattle.priority_sched.proofs.Words.{timer_count}
 
 -- the loaded word is that of the timer
 pub timer_is : (program : Program) (words : Memory) (m : Model) (t time : ℕ) (idle : Idle) (j : ℕ) → IsAccepted program → t < length program.threads →
-    StandsPrivate words program m → KnowsTimer program words m t time idle j → words (place_in t idle.commit_word (26 + 2 * j)) ≡ due_word (timer_of m j).due
+    StandsPrivate words program m → KnowsTimer program words m t time idle j → words (place_in t idle.commit_word (header.due j)) ≡ due_word (timer_of m j).due
 timer_is program words m t time idle j accepted known private k =
-    ap (λ c. words (place_in t c (26 + 2 * j))) k.idle_is.commit_word
+    ap (λ c. words (place_in t c (header.due j))) k.idle_is.commit_word
     ∙ timer_count program words m t j accepted known private k.known (eqb-true (timer_def program j).thread.0 t k.own)
 
 -- a timer is due by its word exactly where it is by its tick
@@ -105,6 +107,6 @@ timer_by program words m thread time idle timer word accepted known calm k loade
 
 pub timer_holds : (program : Program) (readings : Readings) (words : Memory) (m : Model) (thread : ThreadId) (time : ℕ) (idle : Idle) (timer : TimerId) →
     Background program readings words m → ScanHolds program words m (scan_at thread time (Timer idle timer)) →
-    ScanHolds program words m (after_timer program thread time idle timer (words (place_in thread.0 idle.commit_word (26 + 2 * timer.0))))
+    ScanHolds program words m (after_timer program thread time idle timer (words (place_in thread.0 idle.commit_word (header.due timer.0))))
 timer_holds program readings words m thread time idle timer b h =
     timer_by program words m thread time idle timer _ b.accepted h.known h.calm h.knows (timer_is program words m thread.0 time idle timer.0 b.accepted h.known b.private h.knows)

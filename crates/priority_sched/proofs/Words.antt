@@ -1,100 +1,13 @@
 -- The words that a scan loads, by the state that they stand for.
-use Rattle.std.proofs.Common.{◌≡◌, ℕ, ◌+◌, ◌*◌, ◌%◌, ◌<◌, ◌≤◌, length, Some, arith, refl, sym, ◌∙◌, inl, inr, subst}
-use Rattle.std.specs.Prelude.{◌==◌, ◌&&◌, if◌then◌else◌, nat_lt, slice_index}
-use Rattle.std.proofs.lemmas.Bool.{cases_eq, lt-ltb, eq-eqb}
-use Rattle.ink_base.specs.declared.event.Event.{Event}
+use Rattle.std.proofs.Common.{◌≡◌, ℕ, ◌+◌, ◌%◌, ◌<◌, length, arith, subst}
+use Rattle.std.specs.Prelude.{slice_index}
 use Rattle.task_isa.specs.declared.program.Program.{Program}
 use Rattle.fram_words.specs.Places.{Memory, Ring}
-use Rattle.thread_state.specs.Pages.{committed}
-use Rattle.prog_check.specs.Accepted.{IsAccepted}
-use Rattle.prog_check.specs.Lookup.{pipe_def, timer_def}
+use Rattle.prog_check.specs.Lookup.{pipe_def}
 use Rattle.never_cut.specs.declared.model.Model.{Model}
-use Rattle.never_cut.specs.State.{thread_of, pipe_of, timer_of}
-use Rattle.never_cut.specs.Stands.{Saved, saved, thread_words, due_word, origin_word, StandsPrivate}
-use Rattle.priority_sched.specs.Scan.{writer_of}
-
--- a property of each number below 8
-below_eight : (P : ℕ → Type 0) → P 0 → P 1 → P 2 → P 3 → P 4 → P 5 → P 6 → P 7 → (n : ℕ) → n < 8 → P n
-below_eight P a b c d e f g h n lt =
-    elim (cases_eq n 0) [
-      | inl is ↦ subst P (sym is) a
-      | inr zero ↦
-          elim (cases_eq n 1) [
-            | inl is ↦ subst P (sym is) b
-            | inr one ↦
-                elim (cases_eq n 2) [
-                  | inl is ↦ subst P (sym is) c
-                  | inr two ↦
-                      elim (cases_eq n 3) [
-                        | inl is ↦ subst P (sym is) d
-                        | inr three ↦
-                            elim (cases_eq n 4) [
-                              | inl is ↦ subst P (sym is) e
-                              | inr four ↦
-                                  elim (cases_eq n 5) [
-                                    | inl is ↦ subst P (sym is) f
-                                    | inr five ↦
-                                        elim (cases_eq n 6) [
-                                          | inl is ↦ subst P (sym is) g
-                                          | inr six ↦
-                                              let last : n ≡ 7 = omega arith in subst P (sym last) h
-                                        ]
-                                  ]
-                            ]
-                      ]
-                ]
-          ]
-    ]
-
-written_at : (y : Saved) (stamp origin value q : ℕ) → q < 8 → slice_index (thread_words y stamp origin value) (10 + q) ≡ y.written q
-unfolding thread_words
-written_at y stamp origin value q lt =
-    below_eight (λ k. slice_index (thread_words y stamp origin value) (10 + k) ≡ y.written k) refl refl refl refl refl refl refl refl q lt
-
-taken_at : (y : Saved) (stamp origin value q : ℕ) → q < 8 → slice_index (thread_words y stamp origin value) (18 + q) ≡ y.taken q
-unfolding thread_words
-taken_at y stamp origin value q lt =
-    below_eight (λ k. slice_index (thread_words y stamp origin value) (18 + k) ≡ y.taken k) refl refl refl refl refl refl refl refl q lt
-
-due_at : (y : Saved) (stamp origin value j : ℕ) → j < 8 → slice_index (thread_words y stamp origin value) (26 + 2 * j) ≡ y.due j
-unfolding thread_words
-due_at y stamp origin value j lt =
-    below_eight (λ k. slice_index (thread_words y stamp origin value) (26 + 2 * k) ≡ y.due k) refl refl refl refl refl refl refl refl j lt
-
--- the time of a chain's first commit
-pub first_word : (program : Program) (words : Memory) (m : Model) (t : ℕ) → t < length program.threads → StandsPrivate words program m →
-    committed words t 2 ≡ (thread_of m t).first
-unfolding thread_words
-first_word program words m t known h = let x = h.threads t known in x.block 2
-
--- the event of a running chain
-pub event_words : (program : Program) (words : Memory) (m : Model) (t : ℕ) (e : Event) → t < length program.threads → StandsPrivate words program m →
-    (thread_of m t).event ≡ Some e → (committed words t 3 ≡ origin_word e.origin) × (committed words t 4 ≡ e.value)
-unfolding thread_words
-event_words program words m t e known h is = let x = h.threads t known in let told = x.event e is in (x.block 3 ∙ told.0, x.block 4 ∙ told.1)
-
--- a number in the block of the thread that it belongs to
-chosen : (n count owner t value : ℕ) → n < count → owner ≡ t → (if nat_lt n count && (owner == t) then value else 0) ≡ value
-chosen n count owner t value within own = rw (lt-ltb n count within, eq-eqb owner t own) refl
-
--- how many items a thread has taken from a pipe that it reads
-pub taken_count : (program : Program) (words : Memory) (m : Model) (t q : ℕ) → IsAccepted program → t < length program.threads → StandsPrivate words program m →
-    q < length program.pipes → (pipe_def program q).reader.0 ≡ t → committed words t (18 + q) ≡ (pipe_of m q).taken
-taken_count program words m t q accepted known h within own =
-    let x = h.threads t known in
-    let few : length program.pipes ≤ 8 = accepted.counts.pipes in
-    x.block (18 + q) ∙ (taken_at (saved program m t) x.stamp x.origin x.value q (omega arith)
-    ∙ chosen q (length program.pipes) (pipe_def program q).reader.0 t (pipe_of m q).taken within own)
-
--- and how many its writer has written
-pub written_count : (program : Program) (words : Memory) (m : Model) (q : ℕ) → IsAccepted program → StandsPrivate words program m → q < length program.pipes →
-    committed words (writer_of program q) (10 + q) ≡ (pipe_of m q).taken + length (pipe_of m q).items
-written_count program words m q accepted h within =
-    let pipe = accepted.pipes q within in
-    let x = h.threads (writer_of program q) pipe.writer in
-    let few : length program.pipes ≤ 8 = accepted.counts.pipes in
-    x.block (10 + q) ∙ (written_at (saved program m (writer_of program q)) x.stamp x.origin x.value q (omega arith)
-    ∙ chosen q (length program.pipes) (writer_of program q) (writer_of program q) ((pipe_of m q).taken + length (pipe_of m q).items) within refl)
+use Rattle.never_cut.specs.State.{pipe_of}
+use Rattle.never_cut.specs.Stands.{StandsPrivate}
+pub use Rattle.never_cut.proofs.Blocks.{first_word, event_words, taken_count, written_count, timer_count}
 
 -- the first item of a pipe
 pub item_word : (program : Program) (words : Memory) (m : Model) (q : ℕ) → StandsPrivate words program m → q < length program.pipes → 0 < length (pipe_of m q).items →
@@ -102,12 +15,3 @@ pub item_word : (program : Program) (words : Memory) (m : Model) (q : ℕ) → S
 item_word program words m q h within some =
     let first : (pipe_of m q).taken + 0 ≡ (pipe_of m q).taken = omega arith in
     subst (λ n. words (Ring q (n % (pipe_def program q).places)) ≡ slice_index (pipe_of m q).items 0) first (h.pipes q within 0 some)
-
--- the word of a timer
-pub timer_count : (program : Program) (words : Memory) (m : Model) (t j : ℕ) → IsAccepted program → t < length program.threads → StandsPrivate words program m →
-    j < length program.timers → (timer_def program j).thread.0 ≡ t → committed words t (26 + 2 * j) ≡ due_word (timer_of m j).due
-timer_count program words m t j accepted known h within own =
-    let x = h.threads t known in
-    let few : length program.timers ≤ 8 = accepted.counts.timers in
-    x.block (26 + 2 * j) ∙ (due_at (saved program m t) x.stamp x.origin x.value j (omega arith)
-    ∙ chosen j (length program.timers) (timer_def program j).thread.0 t (due_word (timer_of m j).due) within own)

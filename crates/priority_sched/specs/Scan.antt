@@ -5,11 +5,12 @@ use Rattle.ink_base.specs.declared.ids.TaskId.{TaskId}
 use Rattle.ink_base.specs.declared.ids.PipeId.{PipeId}
 use Rattle.ink_base.specs.declared.ids.TimerId.{TimerId}
 use Rattle.ink_base.specs.declared.event.Event.{Event}
-use Rattle.ink_base.specs.declared.event.Origin as origin
 use Rattle.ink_base.specs.declared.event.Origin.TheVariants as origins
 use Rattle.task_isa.specs.declared.program.Program.{Program}
 use Rattle.fram_words.specs.Places.{Access, Load}
 use Rattle.fram_words.specs.Places as places
+use Rattle.fram_words.specs.Header as header
+use Rattle.fram_words.specs.Held.{running_of, origin_of}
 use Rattle.thread_state.specs.Pages.{place_in}
 use Rattle.push_core.specs.Slots.{slot_in}
 use Rattle.push_core.specs.declared.slot.Slot as slot
@@ -49,30 +50,19 @@ writer_of program q = (pipe_def program q).writer.0
 abbrev pub scan_wants : Program → (t : ℕ) → ScanAt → Access
 scan_wants program t Clock = Load places.Clock
 scan_wants program t Commit = Load (places.Commit t)
-scan_wants program t (Running c) = Load (place_in t c 1)
-scan_wants program t (Finished c running) = Load (place_in t c 5)
-scan_wants program t (Origin chain) = Load (place_in t chain.commit_word 3)
-scan_wants program t (Value chain o) = Load (place_in t chain.commit_word 4)
-scan_wants program t (First chain e) = Load (place_in t chain.commit_word 2)
+scan_wants program t (Running c) = Load (place_in t c header.next)
+scan_wants program t (Finished c running) = Load (place_in t c header.finished)
+scan_wants program t (Origin chain) = Load (place_in t chain.commit_word header.origin)
+scan_wants program t (Value chain o) = Load (place_in t chain.commit_word header.value)
+scan_wants program t (First chain e) = Load (place_in t chain.commit_word header.first)
 scan_wants program t (Slot c p) = Load (slot_place program t p)
-scan_wants program t (Taken idle pipe) = Load (place_in t idle.commit_word (18 + pipe.0))
+scan_wants program t (Taken idle pipe) = Load (place_in t idle.commit_word (header.taken pipe.0))
 scan_wants program t (Writer w) = Load (places.Commit (writer_of program w.pipe.0))
-scan_wants program t (Written w c) = Load (place_in (writer_of program w.pipe.0) c (10 + w.pipe.0))
+scan_wants program t (Written w c) = Load (place_in (writer_of program w.pipe.0) c (header.written w.pipe.0))
 scan_wants program t (Item w) = Load (places.Ring w.pipe.0 (ring_index (pipe_def program w.pipe.0).places w.taken))
-scan_wants program t (Timer idle timer) = Load (place_in t idle.commit_word (26 + 2 * timer.0))
+scan_wants program t (Timer idle timer) = Load (place_in t idle.commit_word (header.due timer.0))
 scan_wants program t (Picked pick) = Load places.Clock
 scan_wants program t Quiet = Load places.Clock
-
--- the next task of a running chain, none where the thread is idle
-abbrev pub running_of : (word : ℕ) → Option TaskId
-running_of word = if word == 0 then None else Some (record { 0 = word - 1 })
-
--- the origin in a word: its kind in bits 56 up
-abbrev pub origin_of : (word : ℕ) → origin.Origin
-origin_of word =
-    if word / 2 ^ 56 == 1 then origins.Source (record { 0 = word / 2 ^ 16 % 2 ^ 8 }) (word % 2 ^ 8)
-    else (if word / 2 ^ 56 == 2 then origins.Pipe (record { 0 = word / 2 ^ 32 % 2 ^ 8 }) (word % 2 ^ 32)
-    else origins.Timer (record { 0 = word / 2 ^ 48 % 2 ^ 8 }) (word % 2 ^ 48))
 
 -- the event of a slot that holds one of the position
 abbrev pub event_at : (p : ℕ) → Option slot.Slot → Option Event

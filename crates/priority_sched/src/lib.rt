@@ -3,11 +3,11 @@
 #![tactic(auto)]
 
 mod chain;
+mod event;
 mod idle;
 mod laws;
 mod machine;
 mod order;
-mod origin;
 mod picks;
 mod pipes;
 mod places;
@@ -19,6 +19,5 @@ pub use chain::Chain;
 pub use idle::{Idle, Waiting};
 pub use laws::scan_picks;
 pub use machine::ScanMachine;
-pub use order::next_below;
 pub use scan_at::ScanAt;
 pub use scanned::Scanned;

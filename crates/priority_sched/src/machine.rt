@@ -12,15 +12,15 @@ ghost use Rattle.never_cut.specs.Wanted.{IsSlotWanted};
 ghost use Rattle.priority_sched.specs.Reached.{scan_loaded, IsScanOf, IsResultOf};
 ghost use Rattle.priority_sched.specs.Scan.{scan_begun, scan_wants, scan_takes, scan_point, scan_result, scan_slot, IsScan, IsScanWord};
 
-use crate::origin::event_at;
+use crate::event::event_at;
 use crate::places::{item_of, writer_of};
 use crate::scan_at::ScanAt;
 use crate::scanned::Scanned;
-use fram_words::{Access, Place, Step};
+use fram_words::{Access, Header, Place, Step};
 use ink_base::ThreadId;
 use ink_layout::{KernelPoint, Plan, SlotAt, slot_of};
 use task_isa::Program;
-use thread_state::place_in;
+use thread_state::header_in;
 
 /// The kernel between two services: the thread at hand, the scan's time in ticks once the clock was loaded, and the row of the access
 /// table.
@@ -42,6 +42,15 @@ impl ScanMachine {
             time: 0,
             at: ScanAt::Clock,
         }
+    }
+
+    /// Goes back to before its first access.
+    pub fn begin_again(&mut self)
+        ensures { self.new ≡ scan_begun }
+    {
+        self.thread = ThreadId(0);
+        self.time = 0;
+        self.at = ScanAt::Clock;
     }
 
     /// What the scan found; none exactly where it isn't over. From words in their ranges the pick is one that a task's machine can serve.
@@ -79,29 +88,37 @@ impl ScanMachine {
         let thread = self.thread;
         match self.at {
             ScanAt::Commit => Place::Commit { thread },
-            ScanAt::Running { commit_word } => place_in(thread, commit_word, 1),
-            ScanAt::Finished { commit_word, .. } => place_in(thread, commit_word, 5),
-            ScanAt::Origin { chain } => place_in(thread, chain.commit_word, 3),
-            ScanAt::Value { chain, .. } => place_in(thread, chain.commit_word, 4),
-            ScanAt::First { chain, .. } => place_in(thread, chain.commit_word, 2),
+            ScanAt::Running { commit_word } => header_in(thread, commit_word, Header::Next),
+            ScanAt::Finished { commit_word, .. } => header_in(
+                thread,
+                commit_word,
+                Header::Finished,
+            ),
+            ScanAt::Origin { chain } => header_in(thread, chain.commit_word, Header::Origin),
+            ScanAt::Value { chain, .. } => header_in(thread, chain.commit_word, Header::Value),
+            ScanAt::First { chain, .. } => header_in(thread, chain.commit_word, Header::First),
             ScanAt::Slot { position, .. } => slot_of(program, thread, position),
-            ScanAt::Taken { idle, pipe } => place_in(thread, idle.commit_word, 18 + pipe.0 as u32),
+            ScanAt::Taken { idle, pipe } => header_in(
+                thread,
+                idle.commit_word,
+                Header::Taken(pipe.0 as u32),
+            ),
             ScanAt::Writer { waiting } => Place::Commit {
                 thread: writer_of(program, waiting.pipe),
             },
             ScanAt::Written {
                 waiting,
                 commit_word,
-            } => place_in(
+            } => header_in(
                 writer_of(program, waiting.pipe),
                 commit_word,
-                10 + waiting.pipe.0 as u32,
+                Header::Written(waiting.pipe.0 as u32),
             ),
             ScanAt::Item { waiting } => item_of(program, waiting.pipe, waiting.taken),
-            ScanAt::Timer { idle, timer } => place_in(
+            ScanAt::Timer { idle, timer } => header_in(
                 thread,
                 idle.commit_word,
-                26 + 2 * timer.0 as u32,
+                Header::Due(timer.0 as u32),
             ),
             ScanAt::Clock | ScanAt::Picked { .. } | ScanAt::Quiet => Place::Clock,
         }
@@ -141,8 +158,9 @@ impl ScanMachine {
         }
     }
 
-    /// What the access stands for, where it found this word.
-    fn point(&self, word: u64) -> KernelPoint
+    /// What the wanted access stands for, where it found this word: what `take` answers.
+    #[inline(always)]
+    pub fn point(&self, word: u64) -> KernelPoint
         ensures { result ≡ scan_point self.now.thread self.now.at word }
     {
         match self.at {

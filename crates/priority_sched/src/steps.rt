@@ -1,5 +1,6 @@
 //! The row that follows each access of a scan.
 ghost use Rattle.std.specs.Prelude.{◌≡◌, ◌≤◌, ◌<◌, ◌^◌, length};
+ghost use Rattle.fram_words.specs.Held.{running_of};
 ghost use Rattle.prog_check.specs.Lookup.{thread_def};
 ghost use Rattle.priority_sched.specs.Scan.{scan_takes, scan_next, at_pipe, at_timer, after_finished, after_value, after_look, after_written, after_timer, IsScan, IsScanWord, IsWaiting};
 ghost use Rattle.priority_sched.specs.Scan as scan;
@@ -7,13 +8,14 @@ ghost use Rattle.priority_sched.specs.Order as order;
 ghost use Rattle.priority_sched.specs.declared.scan_at.ScanAt.TheVariants.{Running, Finished};
 
 use crate::chain::Chain;
+use crate::event::event_at;
 use crate::idle::{Idle, Waiting};
 use crate::machine::ScanMachine;
 use crate::order::{next_below, priority_of};
-use crate::origin::{event_at, origin_of, running_of};
 use crate::pipes::{next_pipe, next_timer};
 use crate::scan_at::ScanAt;
 use event_pipe::has_item;
+use fram_words::{read_next, read_origin};
 use ink_base::{Event, Origin, PipeId, TaskId, TimerId};
 use ink_layout::Plan;
 use persist_timer::is_due;
@@ -38,7 +40,7 @@ impl ScanMachine {
                 running,
             } => self.after_finished(commit_word, running, word as u32),
             ScanAt::Origin { chain } => {
-                let origin = origin_of(word);
+                let origin = read_origin(word);
                 self.at = ScanAt::Value { chain, origin };
             }
             ScanAt::Value { chain, origin } => self.after_value(plan, chain, origin, word as u32),
@@ -109,12 +111,12 @@ impl ScanMachine {
     /// After the word that tells the next task of a chain.
     fn after_running(&mut self, plan: &Plan, commit_word: u64, word: u64)
         requires { IsScanWord plan.now.accepted (Running commit_word) word }
-        ensures { self.new ≡ record self.old { at = Finished commit_word (scan.running_of word) } }
+        ensures { self.new ≡ record self.old { at = Finished commit_word (running_of word) } }
     {
         let _program = plan.program();
         self.at = ScanAt::Finished {
             commit_word,
-            running: running_of(word),
+            running: read_next(word),
         };
     }
 

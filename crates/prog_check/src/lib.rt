@@ -8,6 +8,7 @@ mod devices;
 mod judge;
 mod limits;
 mod meaning;
+mod operands;
 mod parts;
 mod tasks;
 mod threads;

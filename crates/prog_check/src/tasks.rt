@@ -1,12 +1,14 @@
 //! The first step at tasks and their instructions.
 
-ghost use Rattle.std.specs.Prelude.{◌≡◌, ◌<◌, ◌≤◌, length, nat_le, sum_by};
+ghost use Rattle.std.specs.Prelude.{◌≡◌, ℕ, ◌<◌, ◌≤◌, length, nat_le, sum_by, IfOk};
 ghost use Rattle.std.specs.Result.{result_err};
-ghost use Rattle.prog_check.specs.Lookup.{task_def};
+ghost use Rattle.prog_check.specs.Lookup.{task_def, instr_at};
+ghost use Rattle.prog_check.specs.Accepted.{IsReadBack, AreReadBack};
 ghost use Rattle.prog_check.specs.Faults.{is_task_taken, writes, sets, is_owned, instr_fault, task_fault, tasks_fault, first_below};
 ghost use Rattle.task_isa.specs.declared.program.Task.{Task as ATask};
 
 use crate::demand::demand;
+use crate::operands::read_back;
 use crate::parts::{instr, instr_line, pipe, task, task_line, timer};
 use crate::threads::has_thread;
 use ink_base::{Cause, JobFault};
@@ -41,17 +43,21 @@ fn is_owned(program: &Program, task: &Task, instr: &Instr) -> bool
 fn judge_instr(program: &Program, lines: &Lines, x: usize, n: usize) -> Result<(), JobFault>
     requires task { x < length program.now.tasks }
     requires offset { n < length (task_def program.now x).code }
-    ensures { result_err result ≡ instr_fault program.now lines.now x n }
+    ensures fault { result_err result ≡ instr_fault program.now lines.now x n }
+    ensures read_back { IsReadBack (instr_at (task_def program.now x) n) }
 {
     let task = task(program, x);
-    let owned = is_owned(program, task, instr(task, n));
+    let instr = instr(task, n);
+    read_back(instr);
+    let owned = is_owned(program, task, instr);
     demand(owned, instr_line(lines, x, n), Cause::BadOwner)
 }
 
 #[tactic(auto, using(crate::proofs::Below::first_below_zero, crate::proofs::Below::first_below_more, crate::proofs::Below::first_below_at))]
 fn judge_owners(program: &Program, lines: &Lines, x: usize) -> Result<(), JobFault>
     requires { x < length program.now.tasks }
-    ensures { result_err result ≡ first_below (instr_fault program.now lines.now x) (length (task_def program.now x).code) }
+    ensures fault { result_err result ≡ first_below (instr_fault program.now lines.now x) (length (task_def program.now x).code) }
+    ensures read_back { IfOk result (λ _. AreReadBack (task_def program.now x)) }
 {
     let count = task(program, x).code.len();
     for n in 0..count {
@@ -70,7 +76,8 @@ fn is_task_taken(before: &[Task], task: &Task) -> bool
 #[tactic(auto, unfolding(crate::specs::Faults::task_fault))]
 fn judge_task(program: &Program, lines: &Lines, x: usize) -> Result<(), JobFault>
     requires { x < length program.now.tasks }
-    ensures { result_err result ≡ task_fault program.now lines.now x }
+    ensures fault { result_err result ≡ task_fault program.now lines.now x }
+    ensures read_back { IfOk result (λ _. AreReadBack (task_def program.now x)) }
 {
     let task = task(program, x);
     let line = task_line(lines, x);
@@ -101,7 +108,8 @@ fn is_code_within(tasks: &[Task]) -> bool
 
 #[tactic(auto, using(crate::proofs::Below::first_below_zero, crate::proofs::Below::first_below_more, crate::proofs::Below::first_below_at))]
 pub fn judge_tasks(program: &Program, lines: &Lines) -> Result<(), JobFault>
-    ensures { result_err result ≡ tasks_fault program.now lines.now }
+    ensures fault { result_err result ≡ tasks_fault program.now lines.now }
+    ensures read_back { IfOk result (λ _. (x : ℕ) → x < length program.now.tasks → AreReadBack (task_def program.now x)) }
 {
     let count = program.tasks.len();
     demand(count <= 256, lines.program, Cause::OverLimit)?;

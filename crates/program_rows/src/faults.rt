@@ -2,12 +2,22 @@
 
 ghost use Rattle.std.specs.Prelude.{◌≤◌};
 
-use crate::fixtures::{FIRST_JOB, FIRST_RUN, words_of};
+use crate::fixtures::{FIRST_JOB, FIRST_RUN, called, source_of};
 use ink_base::Status;
-use ink_io::{MemSink, MemSource, SureSource};
-use ink_modes::board;
-use std::alloc::Global;
+use ink_io::{MemSink, NoMemory, SureSource};
+use std::alloc::{AllocError, Global};
 use std::test::Fail;
+
+// A sink with the room for what a run prints, that takes so many bytes at a call, and whose call of this number fails.
+fn sink_of(alloc: Global, chunk: usize, call: u64) -> Result<MemSink, NoMemory>
+    requires { 1 ≤ chunk }
+{
+    let fail_at = [call].to_vec(alloc)?;
+    MemSink::new(alloc, 2000, chunk, fail_at)
+}
+
+// No call has this number.
+const NEVER: u64 = 0;
 
 // How a run of the first job ends whose source gives so many bytes at a call, and whose call of this number fails.
 fn status_of_read(
@@ -15,26 +25,25 @@ fn status_of_read(
     chunk: usize,
     call: u64,
     sink: &mut MemSink,
-) -> Result<Status, Fail>
+) -> Result<Status, AllocError>
     requires { 1 ≤ chunk }
 {
-    let words = words_of(alloc, &["run"])?;
-    let bytes = Vec::from_slice(alloc, FIRST_JOB.as_bytes())?;
-    let mut source = MemSource::new(bytes, chunk, [call].to_vec(alloc)?);
-    Ok(board(alloc, words.as_slice(), &mut source, sink).status)
+    let mut source = source_of(alloc, FIRST_JOB, chunk, call)?;
+    let finish = called(alloc, "run", &mut source, sink)?;
+    Ok(finish.status)
 }
 
 // A read that fails is a read fault, and nothing is written.
-fn is_read_fault(alloc: Global, chunk: usize, call: u64) -> Result<bool, Fail>
+fn is_read_fault(alloc: Global, chunk: usize, call: u64) -> Result<bool, NoMemory>
     requires { 1 ≤ chunk }
 {
-    let mut sink = MemSink::new(alloc, 2000, 1, Vec::new(alloc))?;
+    let mut sink = sink_of(alloc, 1, NEVER)?;
     let status = status_of_read(alloc, chunk, call, &mut sink)?;
     Ok(matches!(status, Status::ReadFault) && sink.bytes().is_empty())
 }
 
-fn is_done(alloc: Global, call: u64) -> Result<bool, Fail> {
-    let mut sink = MemSink::new(alloc, 2000, 1, Vec::new(alloc))?;
+fn is_done(alloc: Global, call: u64) -> Result<bool, NoMemory> {
+    let mut sink = sink_of(alloc, 1, NEVER)?;
     let status = status_of_read(alloc, 1, call, &mut sink)?;
     Ok(matches!(status, Status::Done) && sink.bytes() == FIRST_RUN.as_bytes())
 }
@@ -54,23 +63,33 @@ fn a_read_that_fails_runs_nothing(rt: HostRuntime) -> Result<(), Fail> {
     Ok(())
 }
 
-// How a run of the first job ends with this sink.
-fn status_of_write(alloc: Global, sink: &mut MemSink) -> Result<Status, Fail> {
-    let words = words_of(alloc, &["run"])?;
+fn sure_source(alloc: Global) -> Result<SureSource, AllocError> {
     let bytes = Vec::from_slice(alloc, FIRST_JOB.as_bytes())?;
-    Ok(board(alloc, words.as_slice(), &mut SureSource::new(bytes), sink).status)
+    Ok(SureSource::new(bytes))
+}
+
+// How a run of the first job ends with this sink.
+fn status_of_write(alloc: Global, sink: &mut MemSink) -> Result<Status, AllocError> {
+    let mut source = sure_source(alloc)?;
+    let finish = called(alloc, "run", &mut source, sink)?;
+    Ok(finish.status)
 }
 
 // A write that fails at this call of so many bytes each leaves what was written before.
-fn is_write_fault(alloc: Global, chunk: usize, call: u64, written: usize) -> Result<bool, Fail>
+fn is_write_fault(alloc: Global, chunk: usize, call: u64, written: usize) -> Result<bool, NoMemory>
     requires { 1 ≤ chunk }
 {
-    let mut sink = MemSink::new(alloc, 2000, chunk, [call].to_vec(alloc)?)?;
+    let mut sink = sink_of(alloc, chunk, call)?;
     let status = status_of_write(alloc, &mut sink)?;
-    Ok(
-        matches!(status, Status::WriteFault)
-            && Some(sink.bytes()) == FIRST_RUN.as_bytes().get(..written),
-    )
+    let before = FIRST_RUN.as_bytes().get(..written);
+    Ok(matches!(status, Status::WriteFault) && Some(sink.bytes()) == before)
+}
+
+// A run whose write of this number would fail makes fewer writes.
+fn is_written(alloc: Global, call: u64) -> Result<bool, NoMemory> {
+    let mut sink = sink_of(alloc, 1, call)?;
+    let status = status_of_write(alloc, &mut sink)?;
+    Ok(matches!(status, Status::Done) && sink.bytes() == FIRST_RUN.as_bytes())
 }
 
 #[test]
@@ -80,9 +99,7 @@ fn a_write_that_fails_at_any_call_leaves_what_was_written_before(
     for written in 0..115 {
         assert!(rt; is_write_fault(rt.alloc(), 1, written + 1, written as usize)?);
     }
-    let mut sink = MemSink::new(rt.alloc(), 2000, 1, [116].to_vec(rt.alloc())?)?;
-    assert!(rt; matches!(status_of_write(rt.alloc(), &mut sink)?, Status::Done));
-    assert!(rt; sink.bytes() == FIRST_RUN.as_bytes());
+    assert!(rt; is_written(rt.alloc(), 116)?);
     Ok(())
 }
 

@@ -1,5 +1,9 @@
-//! A job, what its run prints, and the words of a command.
+//! A job, what its run prints, and calls of the program.
 
+ghost use Rattle.std.specs.Prelude.{◌≤◌};
+
+use ink_io::{MemSource, Sink, Source};
+use ink_modes::{Finish, board};
 use std::alloc::{AllocError, Global};
 
 /// A job of one thread that puts out the sum of its readings. It has 193 bytes.
@@ -16,4 +20,29 @@ pub(crate) fn words_of(alloc: Global, words: &[&str]) -> Result<Vec<String>, All
         all.push(String::from_str(alloc, word)?)?;
     }
     Ok(all)
+}
+
+/// A source of a job that gives so many bytes at a call, and whose call of this number fails.
+pub(crate) fn source_of(
+    alloc: Global,
+    job: &str,
+    chunk: usize,
+    call: u64,
+) -> Result<MemSource, AllocError>
+    requires { 1 ≤ chunk }
+{
+    let fail_at = [call].to_vec(alloc)?;
+    let bytes = Vec::from_slice(alloc, job.as_bytes())?;
+    Ok(MemSource::new(bytes, chunk, fail_at))
+}
+
+/// How a call whose one word is a mode ends.
+pub(crate) fn called<S: Source, K: Sink>(
+    alloc: Global,
+    mode: &str,
+    source: &mut S,
+    sink: &mut K,
+) -> Result<Finish, AllocError> {
+    let words = words_of(alloc, &[mode])?;
+    Ok(board(alloc, words.as_slice(), source, sink))
 }

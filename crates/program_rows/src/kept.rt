@@ -1,10 +1,10 @@
 //! What a call keeps.
 
-use crate::fixtures::{FIRST_JOB, words_of};
-use ink_io::{MemSource, SureSink};
-use ink_modes::{Record, board};
+use crate::fixtures::{FIRST_JOB, called, source_of};
+use ink_io::SureSink;
+use ink_modes::Record;
 use kernel_core::{ChargeRecord, RunRecord};
-use std::alloc::Global;
+use std::alloc::{AllocError, Global};
 use std::test::Fail;
 
 // The three readings of the full queue.
@@ -12,11 +12,10 @@ const FULL_QUEUE: &str =
     "[program]\nthread a priority 1 queue 2 state 1 log 8\nsource a\ntask sum thread a limit 100\nli r1 0\nld r2 r1\nev r3\nadd r2 r2 r3\nst r2 r1\nout r2\ndone\nend\n[sensors]\nS0 7 8 9\n[power]\ncharge 0 S0*20\n";
 
 // What is kept of a mode for a job; a read of it fails at this call.
-fn kept_of(alloc: Global, mode: &str, job: &str, call: u64) -> Result<Option<Record>, Fail> {
-    let words = words_of(alloc, &[mode])?;
-    let bytes = Vec::from_slice(alloc, job.as_bytes())?;
-    let mut source = MemSource::new(bytes, 100, [call].to_vec(alloc)?);
-    Ok(board(alloc, words.as_slice(), &mut source, &mut SureSink::new()).kept)
+fn kept_of(alloc: Global, mode: &str, job: &str, call: u64) -> Result<Option<Record>, AllocError> {
+    let mut source = source_of(alloc, job, 100, call)?;
+    let finish = called(alloc, mode, &mut source, &mut SureSink::new())?;
+    Ok(finish.kept)
 }
 
 // No call has this number.
@@ -36,9 +35,9 @@ fn has_one_charge(record: &RunRecord, kernel: u32, source: u32) -> bool {
     }
 }
 
-fn keeps_charge(alloc: Global, job: &str, kernel: u32, source: u32) -> Result<bool, Fail> {
-    match kept_of(alloc, "run", job, NEVER)? {
-        Some(Record::Run(record)) => Ok(has_one_charge(&record, kernel, source)),
+fn keeps_charge(alloc: Global, job: &str, kernel: u32, source: u32) -> Result<bool, AllocError> {
+    match &kept_of(alloc, "run", job, NEVER)? {
+        Some(Record::Run(record)) => Ok(has_one_charge(record, kernel, source)),
         _ => Ok(false),
     }
 }
@@ -59,8 +58,8 @@ const SHARED: [u64; 6] = [
     0x0000000300000002,
 ];
 
-fn keeps_shared_words(alloc: Global, job: &str) -> Result<bool, Fail> {
-    match kept_of(alloc, "run", job, NEVER)? {
+fn keeps_shared_words(alloc: Global, job: &str) -> Result<bool, AllocError> {
+    match &kept_of(alloc, "run", job, NEVER)? {
         Some(Record::Run(record)) => Ok(record.words.as_slice().ends_with(&SHARED)),
         _ => Ok(false),
     }
@@ -73,16 +72,25 @@ fn a_full_queue_refuses_a_reading(rt: HostRuntime) -> Result<(), Fail> {
     Ok(())
 }
 
+fn keeps_program(alloc: Global) -> Result<bool, AllocError> {
+    let kept = kept_of(alloc, "print", FIRST_JOB, NEVER)?;
+    Ok(matches!(&kept, Some(Record::Print(_))))
+}
+
 #[test]
 fn a_program_that_was_printed_is_kept(rt: HostRuntime) -> Result<(), Fail> {
-    let kept = kept_of(rt.alloc(), "print", FIRST_JOB, NEVER)?;
-    assert!(rt; matches!(&kept, Some(Record::Print(_))));
+    assert!(rt; keeps_program(rt.alloc())?);
     Ok(())
+}
+
+fn keeps_nothing(alloc: Global, job: &str, call: u64) -> Result<bool, AllocError> {
+    let kept = kept_of(alloc, "run", job, call)?;
+    Ok(kept.is_none())
 }
 
 #[test]
 fn nothing_is_kept_of_a_job_that_is_not_read_or_refused(rt: HostRuntime) -> Result<(), Fail> {
-    assert!(rt; kept_of(rt.alloc(), "run", FIRST_JOB, 2)?.is_none());
-    assert!(rt; kept_of(rt.alloc(), "run", "[program]\n", NEVER)?.is_none());
+    assert!(rt; keeps_nothing(rt.alloc(), FIRST_JOB, 2)?);
+    assert!(rt; keeps_nothing(rt.alloc(), "[program]\n", NEVER)?);
     Ok(())
 }

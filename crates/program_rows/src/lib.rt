@@ -1,4 +1,4 @@
-//! Tests of ink_modes and of the limits of a job, through their public calls.
+//! Tests of ink_modes through its public calls.
 #![tactic(auto)]
 
 #[cfg(test)]
@@ -7,7 +7,5 @@ mod faults;
 mod fixtures;
 #[cfg(test)]
 mod kept;
-#[cfg(test)]
-mod limits;
 #[cfg(test)]
 mod words;

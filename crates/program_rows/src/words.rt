@@ -16,35 +16,36 @@ fn are_no_command(alloc: Global, words: &[&str]) -> Result<bool, AllocError> {
     Ok(command.is_none())
 }
 
+const OTHER_WORDS: &[&[&str]] = &[
+    &[],
+    &["fly"],
+    &["run", "run"],
+    &["run", "--json", "--json"],
+    &["--journal"],
+    &["run", "--seed", "3"],
+    &["run", "--seed=3"],
+    &["run", "--seed"],
+    &["run", "--"],
+    &["run", "--bounds"],
+    &["run", "--image"],
+    &["run", "--help"],
+    &["print", "run"],
+    &["print", "--json"],
+    &["print", "--seed", "3"],
+    &["soak"],
+    &["soak", "--seed"],
+    &["soak", "--seed="],
+    &["soak", "--seed", "--json"],
+    &["soak", "--seed", "5", "5"],
+    &["soak", "--seed", "5", "--seed=5"],
+    &["soak", "--seed", "12345678901"],
+    &["soak", "--seed", "4294967296"],
+    &["soak", "--seed=+5"],
+];
+
 #[test]
 fn other_words_are_no_command(rt: HostRuntime) -> Result<(), Fail> {
-    let commands: [&[&str]; 24] = [
-        &[],
-        &["fly"],
-        &["run", "run"],
-        &["run", "--json", "--json"],
-        &["--journal"],
-        &["run", "--seed", "3"],
-        &["run", "--seed=3"],
-        &["run", "--seed"],
-        &["run", "--"],
-        &["run", "--bounds"],
-        &["run", "--image"],
-        &["run", "--help"],
-        &["print", "run"],
-        &["print", "--json"],
-        &["print", "--seed", "3"],
-        &["soak"],
-        &["soak", "--seed"],
-        &["soak", "--seed="],
-        &["soak", "--seed", "--json"],
-        &["soak", "--seed", "5", "5"],
-        &["soak", "--seed", "5", "--seed=5"],
-        &["soak", "--seed", "12345678901"],
-        &["soak", "--seed", "4294967296"],
-        &["soak", "--seed=+5"],
-    ];
-    for words in commands {
+    for words in OTHER_WORDS {
         assert!(rt; are_no_command(rt.alloc(), words)?);
     }
     Ok(())
@@ -85,24 +86,28 @@ fn words_stand_in_any_order(rt: HostRuntime) -> Result<(), Fail> {
     Ok(())
 }
 
-// What a `clap` command with these flags reads from the words behind the program's name.
-fn matches_of<'a>(alloc: Global, words: &'a [&'a str]) -> Result<ArgMatches<'a>, clap::Error> {
+// A flag that is set by its name.
+fn flag<'a>(alloc: Global, name: &'a str) -> Arg<'a> {
+    Arg::new(alloc, name).long(name).action(ArgAction::SetTrue)
+}
+
+fn with_mode_and_seed<'a>(alloc: Global) -> Result<clap::Command<'a>, AllocError> {
     let mode = Arg::new(alloc, "mode")
         .required(true)
         .action(ArgAction::Set);
-    let journal = Arg::new(alloc, "journal")
-        .long("journal")
-        .action(ArgAction::SetTrue);
-    let json = Arg::new(alloc, "json")
-        .long("json")
-        .action(ArgAction::SetTrue);
+    let command = clap::Command::new(alloc, "ink_board").arg(mode)?;
     let seed = Arg::new(alloc, "seed").long("seed").action(ArgAction::Set);
-    clap::Command::new(alloc, "ink_board")
-        .arg(mode)?
-        .arg(journal)?
-        .arg(json)?
-        .arg(seed)?
-        .try_get_matches_from(words)
+    command.arg(seed)
+}
+
+fn with_flags<'a>(alloc: Global) -> Result<clap::Command<'a>, AllocError> {
+    let command = with_mode_and_seed(alloc)?.arg(flag(alloc, "journal"))?;
+    command.arg(flag(alloc, "json"))
+}
+
+// What a `clap` command with these flags reads from the words behind the program's name.
+fn matches_of<'a>(alloc: Global, words: &'a [&'a str]) -> Result<ArgMatches<'a>, clap::Error> {
+    with_flags(alloc)?.try_get_matches_from(words)
 }
 
 // The command that those matches ask for.
@@ -130,17 +135,18 @@ fn are_same(alloc: Global, line: &[&str]) -> Result<bool, Fail> {
     Ok(command.is_some() && command == command_by_clap(alloc, line)?)
 }
 
+const LINES: &[&[&str]] = &[
+    &["ink_board", "run"],
+    &["ink_board", "print"],
+    &["ink_board", "run", "--json"],
+    &["ink_board", "run", "--journal"],
+    &["ink_board", "soak", "--seed", "5"],
+    &["ink_board", "soak", "--seed=5"],
+];
+
 #[test]
 fn same_words(rt: HostRuntime) -> Result<(), Fail> {
-    let commands: [&[&str]; 6] = [
-        &["ink_board", "run"],
-        &["ink_board", "print"],
-        &["ink_board", "run", "--json"],
-        &["ink_board", "run", "--journal"],
-        &["ink_board", "soak", "--seed", "5"],
-        &["ink_board", "soak", "--seed=5"],
-    ];
-    for line in commands {
+    for line in LINES {
         assert!(rt; are_same(rt.alloc(), line)?);
     }
     Ok(())

@@ -12,8 +12,8 @@ use Rattle.task_isa.specs.declared.program.ThreadDef.{ThreadDef}
 use Rattle.task_isa.specs.declared.program.Task.{Task}
 use Rattle.task_isa.specs.declared.program.Program.{Program}
 use Rattle.prog_check.specs.Accepted.{AreDistinct, IsAccepted}
-use Rattle.task_asm.specs.Devices.{pipe_name, timer_name}
-use Rattle.task_asm.specs.Forms.{thread_name}
+use Rattle.task_lines.specs.Devices.{pipe_name, timer_name}
+use Rattle.task_lines.specs.Forms.{thread_name}
 use Rattle.program_text.specs.Typed.{IsTyped}
 use Rattle.program_text.proofs.LineByLine.{all_behind, by_number}
 use Rattle.program_text.proofs.NamesAgain.{none_before, fresh_again}

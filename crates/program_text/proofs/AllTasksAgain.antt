@@ -7,10 +7,10 @@ use Rattle.ink_base.specs.Lines.{Word}
 use Rattle.ink_base.specs.Checks.{end_in}
 use Rattle.task_isa.specs.declared.program.Task.{Task}
 use Rattle.task_isa.specs.declared.program.Program.{Program}
-use Rattle.task_asm.specs.declared.draft.DraftTask.{DraftTask}
-use Rattle.task_asm.specs.declared.draft.Draft.{Draft}
-use Rattle.task_asm.specs.Named.{is_taken, place_of}
-use Rattle.task_asm.specs.Outside.{task_name, outside_line}
+use Rattle.task_lines.specs.declared.draft.DraftTask.{DraftTask}
+use Rattle.task_lines.specs.declared.draft.Draft.{Draft}
+use Rattle.task_lines.specs.Named.{is_taken, place_of}
+use Rattle.task_lines.specs.Outside.{task_name, outside_line}
 use Rattle.task_asm.specs.Task.{end_line, inside_line, line_in}
 use Rattle.program_text.proofs.Spelled.{lines_below, task_words, task_lines}
 use Rattle.program_text.proofs.LineByLine.{read_all, read_append, read_one, read_more, AllBehind, read_each}

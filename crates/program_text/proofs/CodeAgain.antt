@@ -8,11 +8,11 @@ use Rattle.task_isa.specs.declared.instr.Instr.TheVariants.{Li, Mov, Add, Sub, M
 use Rattle.task_isa.specs.declared.program.Task.{Task}
 use Rattle.task_isa.specs.declared.program.Program.{Program}
 use Rattle.prog_check.specs.Accepted.{IsRightInstr}
-use Rattle.task_asm.specs.declared.draft.DraftTask.{DraftTask}
-use Rattle.task_asm.specs.declared.draft.Draft.{Draft}
-use Rattle.task_asm.specs.declared.op.OneOp.TheVariants as ones
-use Rattle.task_asm.specs.declared.op.TwoOp.TheVariants as twos
-use Rattle.task_asm.specs.declared.op.ThreeOp.TheVariants as threes
+use Rattle.task_lines.specs.declared.draft.DraftTask.{DraftTask}
+use Rattle.task_lines.specs.declared.draft.Draft.{Draft}
+use Rattle.task_lines.specs.declared.op.OneOp.TheVariants as ones
+use Rattle.task_lines.specs.declared.op.TwoOp.TheVariants as twos
+use Rattle.task_lines.specs.declared.op.ThreeOp.TheVariants as threes
 use Rattle.task_asm.specs.Task.{line_in}
 use Rattle.program_text.proofs.Spelled.{instr_words}
 use Rattle.program_text.proofs.InstrsAgain.{draft_of, CanCode, with_instr, line_from, one_again, two_again, three_again, li_again, jmp_again, jz_again, jnz_again, next_again, done_again, send_again, arm_again, stop_again}

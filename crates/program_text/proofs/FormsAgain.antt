@@ -12,10 +12,10 @@ use Rattle.task_isa.specs.declared.program.PipeDef.{PipeDef}
 use Rattle.task_isa.specs.declared.program.TimerDef.{TimerDef}
 use Rattle.task_isa.specs.declared.program.Program.{Program}
 use Rattle.prog_check.specs.Accepted.{AreDistinct, IsRightThread, IsRightPipe, IsRightTimer}
-use Rattle.task_asm.specs.declared.draft.Draft.{Draft}
-use Rattle.task_asm.specs.Named.{is_taken}
-use Rattle.task_asm.specs.Forms.{thread_name, has_priority, priority_in, expires_in, thread_line, source_line}
-use Rattle.task_asm.specs.Devices.{pipe_name, timer_name, reader_in, pipe_line, due_in, off_in, start_in, timer_line}
+use Rattle.task_lines.specs.declared.draft.Draft.{Draft}
+use Rattle.task_lines.specs.Named.{is_taken}
+use Rattle.task_lines.specs.Forms.{thread_name, has_priority, priority_in, expires_in, thread_line, source_line}
+use Rattle.task_lines.specs.Devices.{pipe_name, timer_name, reader_in, pipe_line, due_in, off_in, start_in, timer_line}
 use Rattle.program_text.proofs.Spelled.{expires_words, thread_words, source_words, pipe_words, start_words, timer_words}
 use Rattle.program_text.proofs.WordsAgain.{fixed_again, number_again, field_again}
 use Rattle.program_text.proofs.NamesAgain.{declared_again, new_name_again}

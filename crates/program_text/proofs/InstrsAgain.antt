@@ -13,20 +13,20 @@ use Rattle.task_isa.specs.declared.instr.Instr.TheVariants.{Li, Jmp, Jz, Jnz, Se
 use Rattle.task_isa.specs.declared.program.Task.{Task}
 use Rattle.task_isa.specs.declared.program.Program.{Program}
 use Rattle.prog_check.specs.Accepted.{HasDistinct}
-use Rattle.task_asm.specs.declared.draft.DraftInstr.{DraftInstr}
-use Rattle.task_asm.specs.declared.draft.DraftInstr.TheVariants as drafts
-use Rattle.task_asm.specs.declared.draft.DraftTask.{DraftTask}
-use Rattle.task_asm.specs.declared.draft.Draft.{Draft}
-use Rattle.task_asm.specs.declared.op.Op.{Op}
-use Rattle.task_asm.specs.declared.op.Op.TheVariants as ops
-use Rattle.task_asm.specs.declared.op.OneOp.{OneOp}
-use Rattle.task_asm.specs.declared.op.TwoOp.{TwoOp}
-use Rattle.task_asm.specs.declared.op.ThreeOp.{ThreeOp}
-use Rattle.task_asm.specs.declared.op.JumpOp.TheVariants as jumps
-use Rattle.task_asm.specs.declared.op.DeviceOp.TheVariants as devices
-use Rattle.task_asm.specs.Devices.{pipe_name, timer_name, own_pipe_in, own_timer_in}
-use Rattle.task_asm.specs.Ops.{op_of, one_instr, two_instr, three_instr}
-use Rattle.task_asm.specs.Operands.{one_in, two_in, three_in, constant_in, target_in, register_target_in, jump_in, device_in, instr_in}
+use Rattle.task_lines.specs.declared.draft.DraftInstr.{DraftInstr}
+use Rattle.task_lines.specs.declared.draft.DraftInstr.TheVariants as drafts
+use Rattle.task_lines.specs.declared.draft.DraftTask.{DraftTask}
+use Rattle.task_lines.specs.declared.draft.Draft.{Draft}
+use Rattle.task_lines.specs.declared.op.Op.{Op}
+use Rattle.task_lines.specs.declared.op.Op.TheVariants as ops
+use Rattle.task_lines.specs.declared.op.OneOp.{OneOp}
+use Rattle.task_lines.specs.declared.op.TwoOp.{TwoOp}
+use Rattle.task_lines.specs.declared.op.ThreeOp.{ThreeOp}
+use Rattle.task_lines.specs.declared.op.JumpOp.TheVariants as jumps
+use Rattle.task_lines.specs.declared.op.DeviceOp.TheVariants as devices
+use Rattle.task_lines.specs.Devices.{pipe_name, timer_name, own_pipe_in, own_timer_in}
+use Rattle.task_lines.specs.Ops.{op_of, one_instr, two_instr, three_instr}
+use Rattle.task_lines.specs.Operands.{one_in, two_in, three_in, constant_in, target_in, register_target_in, jump_in, device_in, instr_in}
 use Rattle.task_asm.specs.Task.{label_of, instr_line, inside_line, line_in}
 use Rattle.program_text.proofs.Spelled.{register_word, label_name}
 use Rattle.program_text.proofs.WordsAgain.{number_again, register_in_again, label_is_name}

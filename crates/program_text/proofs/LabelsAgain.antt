@@ -11,7 +11,7 @@ use Rattle.std.proofs.lemmas.Map.Text.{is_eq-slice_cmp}
 use Rattle.std.proofs.lemmas.Slice.Eq.{bytes_eq-Decides}
 use Rattle.ink_base.specs.Lines.{Word}
 use Rattle.task_isa.specs.declared.instr.Instr.{Instr}
-use Rattle.task_asm.specs.Labels.{offset_of, with_label}
+use Rattle.task_lines.specs.Labels.{offset_of, with_label}
 use Rattle.program_text.specs.Print.{is_target}
 use Rattle.program_text.proofs.Spelled.{label_name}
 use Rattle.program_text.proofs.NamesAgain.{same, differ}

@@ -7,7 +7,7 @@ use Rattle.std.proofs.lemmas.List.Elements.{All-from_get_or, recursion_from_All}
 use Rattle.ink_base.specs.Lines.{Word, Line}
 use Rattle.ink_base.specs.declared.fault.Cause.{Cause}
 use Rattle.ink_base.specs.Gives.{◌>>=◌, ◌>>◌, at_line}
-use Rattle.task_asm.specs.declared.draft.Draft.{Draft}
+use Rattle.task_lines.specs.declared.draft.Draft.{Draft}
 use Rattle.task_asm.specs.Task.{line_in}
 use Rattle.task_asm.specs.Section.{is_header, section_in}
 use Rattle.program_text.proofs.Rendering.{with_numbers}

@@ -9,7 +9,7 @@ use Rattle.std.proofs.lemmas.List.Folds.{list_any_none}
 use Rattle.std.proofs.lemmas.Slice.Eq.{bytes_eq-Decides}
 use Rattle.ink_base.specs.Lines.{Word}
 use Rattle.prog_check.specs.Accepted.{AreDistinct}
-use Rattle.task_asm.specs.Named.{place_of, is_taken, fresh_of, new_name_in, declared_in}
+use Rattle.task_lines.specs.Named.{place_of, is_taken, fresh_of, new_name_in, declared_in}
 use Rattle.ink_base.specs.Checks.{word_in}
 use Rattle.task_isa.specs.Names.{is_name}
 

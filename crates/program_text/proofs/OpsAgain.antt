@@ -1,12 +1,12 @@
 -- The words of instructions.
 use Rattle.std.proofs.Common.{codes, refl}
-use Rattle.task_asm.specs.declared.op.Op.TheVariants as ops
-use Rattle.task_asm.specs.declared.op.OneOp.TheVariants as ones
-use Rattle.task_asm.specs.declared.op.TwoOp.TheVariants as twos
-use Rattle.task_asm.specs.declared.op.ThreeOp.TheVariants as threes
-use Rattle.task_asm.specs.declared.op.JumpOp.TheVariants as jumps
-use Rattle.task_asm.specs.declared.op.DeviceOp.TheVariants as devices
-use Rattle.task_asm.specs.Ops.{one_op, two_op, three_op, other_op, op_of}
+use Rattle.task_lines.specs.declared.op.Op.TheVariants as ops
+use Rattle.task_lines.specs.declared.op.OneOp.TheVariants as ones
+use Rattle.task_lines.specs.declared.op.TwoOp.TheVariants as twos
+use Rattle.task_lines.specs.declared.op.ThreeOp.TheVariants as threes
+use Rattle.task_lines.specs.declared.op.JumpOp.TheVariants as jumps
+use Rattle.task_lines.specs.declared.op.DeviceOp.TheVariants as devices
+use Rattle.task_lines.specs.Ops.{one_op, two_op, three_op, other_op, op_of}
 use Rattle.program_text.proofs.InstrsAgain.{IsOp}
 
 pub ev_is : IsOp (codes "ev") (ops.One ones.Ev)

@@ -8,8 +8,8 @@ use Rattle.task_isa.specs.Lookup.{instr_at}
 use Rattle.task_isa.specs.declared.program.Task.{Task}
 use Rattle.task_isa.specs.declared.program.Program.{Program}
 use Rattle.prog_check.specs.Accepted.{IsAccepted}
-use Rattle.task_asm.specs.declared.draft.DraftLine.{DraftLine}
-use Rattle.task_asm.specs.declared.draft.DraftTask.{DraftTask}
+use Rattle.task_lines.specs.declared.draft.DraftLine.{DraftLine}
+use Rattle.task_lines.specs.declared.draft.DraftTask.{DraftTask}
 use Rattle.program_text.specs.Print.{print_of}
 use Rattle.program_text.specs.Reread.{HasLines, ReadsBack}
 use Rattle.task_asm.specs.Section.{code_lines, program_in}

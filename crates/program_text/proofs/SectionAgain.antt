@@ -12,9 +12,9 @@ use Rattle.task_isa.specs.declared.program.TimerDef.{TimerDef}
 use Rattle.task_isa.specs.declared.program.Task.{Task}
 use Rattle.task_isa.specs.declared.program.Program.{Program}
 use Rattle.prog_check.specs.Accepted.{HasDistinct, IsRightPipe, IsRightTimer}
-use Rattle.task_asm.specs.declared.draft.Draft.{Draft}
-use Rattle.task_asm.specs.Devices.{pipe_name, timer_name}
-use Rattle.task_asm.specs.Outside.{outside_line}
+use Rattle.task_lines.specs.declared.draft.Draft.{Draft}
+use Rattle.task_lines.specs.Devices.{pipe_name, timer_name}
+use Rattle.task_lines.specs.Outside.{outside_line}
 use Rattle.task_asm.specs.Section.{empty_draft}
 use Rattle.task_asm.specs.Targets.{program_of}
 use Rattle.task_asm.specs.Task.{line_in}

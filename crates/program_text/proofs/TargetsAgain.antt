@@ -13,10 +13,10 @@ use Rattle.task_isa.specs.declared.instr.Instr.TheVariants.{Jmp, Jz, Jnz, Next, 
 use Rattle.task_isa.specs.declared.program.Task.{Task}
 use Rattle.task_isa.specs.declared.program.Program.{Program}
 use Rattle.prog_check.specs.Accepted.{HasDistinct, IsRightInstr}
-use Rattle.task_asm.specs.declared.draft.DraftLine.{DraftLine}
-use Rattle.task_asm.specs.declared.draft.DraftTask.{DraftTask}
-use Rattle.task_asm.specs.Named.{place_of}
-use Rattle.task_asm.specs.Outside.{task_name}
+use Rattle.task_lines.specs.declared.draft.DraftLine.{DraftLine}
+use Rattle.task_lines.specs.declared.draft.DraftTask.{DraftTask}
+use Rattle.task_lines.specs.Named.{place_of}
+use Rattle.task_lines.specs.Outside.{task_name}
 use Rattle.program_text.specs.Print.{jumps_to, is_target}
 use Rattle.task_asm.specs.Targets.{aimed, unless_lost, instr_of, code_of, task_of}
 use Rattle.program_text.proofs.Spelled.{task_lines}

@@ -7,13 +7,13 @@ use Rattle.task_isa.specs.Lookup.{no_thread_def, instr_at}
 use Rattle.task_isa.specs.declared.program.Task.{Task}
 use Rattle.task_isa.specs.declared.program.Program.{Program}
 use Rattle.prog_check.specs.Accepted.{IsRightInstr}
-use Rattle.task_asm.specs.declared.draft.DraftLine.{DraftLine}
-use Rattle.task_asm.specs.declared.draft.DraftTask.{DraftTask}
-use Rattle.task_asm.specs.declared.draft.Draft.{Draft}
-use Rattle.task_asm.specs.Named.{fresh_of}
-use Rattle.task_asm.specs.Forms.{thread_name}
-use Rattle.task_asm.specs.Labels.{offset_of, with_label}
-use Rattle.task_asm.specs.Outside.{task_name, task_line}
+use Rattle.task_lines.specs.declared.draft.DraftLine.{DraftLine}
+use Rattle.task_lines.specs.declared.draft.DraftTask.{DraftTask}
+use Rattle.task_lines.specs.declared.draft.Draft.{Draft}
+use Rattle.task_lines.specs.Named.{fresh_of}
+use Rattle.task_lines.specs.Forms.{thread_name}
+use Rattle.task_lines.specs.Labels.{offset_of, with_label}
+use Rattle.task_lines.specs.Outside.{task_name, task_line}
 use Rattle.program_text.specs.Print.{is_target}
 use Rattle.task_asm.specs.Task.{label_line, inside_line, line_in}
 use Rattle.program_text.proofs.Spelled.{label_name, label_lines, instr_words, instr_lines, lines_below, task_words}

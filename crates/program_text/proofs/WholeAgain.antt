@@ -7,7 +7,7 @@ use Rattle.ink_base.specs.Gives.{◌>>◌}
 use Rattle.ink_base.specs.Checks.{end_in}
 use Rattle.task_isa.specs.declared.lines.Lines.{Lines}
 use Rattle.task_isa.specs.declared.program.Program.{Program}
-use Rattle.task_asm.specs.declared.draft.Draft.{Draft}
+use Rattle.task_lines.specs.declared.draft.Draft.{Draft}
 use Rattle.task_asm.specs.Section.{empty_draft, header_in, section_in, lines_of_draft, first_header_in, program_in}
 use Rattle.task_asm.specs.Targets.{program_of}
 use Rattle.program_text.proofs.Rendering.{with_numbers}

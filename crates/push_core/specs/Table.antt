@@ -3,6 +3,7 @@ use Rattle.std.specs.Prelude.{◌≡◌, ◌≢◌, ℕ, ◌+◌, ◌*◌, ◌/�
 use Rattle.ink_base.specs.declared.ids.SourceId.{SourceId}
 use Rattle.fram_words.specs.declared.access.Access.{Access}
 use Rattle.fram_words.specs.declared.access.Access.TheVariants.{Load, Store, Exchange}
+pub use Rattle.fram_words.specs.Held.{src_word}
 use Rattle.push_core.specs.Slots.{full_word, empty_word, slot_in}
 use Rattle.push_core.specs.declared.port.Port.{Port}
 use Rattle.push_core.specs.declared.row.Row.{Row}
@@ -14,10 +15,6 @@ use Rattle.push_core.specs.declared.point.Point.{Point}
 use Rattle.push_core.specs.declared.point.Point.TheVariants as points
 use Rattle.push_core.specs.declared.phase.Phase.{Phase}
 use Rattle.push_core.specs.declared.phase.Phase.TheVariants as phases
-
--- SRC: the next reading in bits 32 to 63, the accepted number in 0 to 31
-abbrev pub src_word : ℕ → ℕ → ℕ
-src_word accepted next = next * 2 ^ 32 + accepted
 
 -- the address of the slot of a position
 abbrev pub slot_at : Port → ℕ → ℕ
@@ -172,15 +169,15 @@ FitsStage places number k (HelpTail p) = (k < number) × (p ≤ greatest_tail)
 FitsStage places number k StoreSkip = k < number
 FitsStage places number k StoreAccepted = k < number
 
--- a row that a source of this port with so many readings can come to
+-- a row that a source of this port with so many readings can come to: an accepted event settles a reading too, so the accepted number goes no further ahead of the next reading
 pub record IsRowFor (port : Port) (number : ℕ) (row : Row) : Type 0 where
   pub place : IsPort port
-  pub accepted : row.accepted ≤ row.next
+  pub accepted : row.accepted ≤ number + row.next
   pub next : row.next ≤ number
   pub stage : FitsStage port.queue.places number row.next row.stage
 
--- the word is one that the access may find: SRC has no more accepted than settled readings, and no more of these than there are
+-- the word is one that the access may find: both numbers of SRC are at most the number of readings
 abbrev pub IsAnswer : (number : ℕ) → Stage → (word : ℕ) → Type 0
-IsAnswer number LoadSrc word = (word % 2 ^ 32 ≤ word / 2 ^ 32) × (word / 2 ^ 32 ≤ number)
+IsAnswer number LoadSrc word = (word % 2 ^ 32 ≤ number) × (word / 2 ^ 32 ≤ number)
 IsAnswer number LoadTail word = word ≤ greatest_tail
 IsAnswer number stage word = Unit {0}

@@ -1,6 +1,6 @@
 //! Where the words that a source uses stand.
 
-use fram_words::{Access, QueuePlace};
+use fram_words::{Access, QueuePlace, src_word};
 use ink_base::{Addr, SourceId};
 
 /// A source's number, the queue that it feeds, and the addresses of its ACK and its SRC.
@@ -15,7 +15,8 @@ pub struct Port {
 impl Port {
     ghost use Rattle.std.specs.Prelude.{◌≡◌, ◌+◌, ◌<◌, ◌^◌};
     ghost use Rattle.fram_words.specs.declared.access.Access.TheVariants as access;
-    ghost use Rattle.push_core.specs.Table.{IsPort, slot_at, src_word};
+    ghost use Rattle.fram_words.specs.Held.{src_word};
+    ghost use Rattle.push_core.specs.Table.{IsPort, slot_at};
 
     /// The address of the slot of a position.
     pub fn slot_at(&self, position: u32) -> Addr
@@ -40,6 +41,6 @@ impl Port {
     pub(crate) fn stored_src(&self, accepted: u32, next: u32) -> Access
         ensures { result ≡ access.Store self.now.src (src_word accepted next) }
     {
-        Access::Store(self.src, ((next as u64) << 32) + accepted as u64)
+        Access::Store(self.src, src_word(accepted, next))
     }
 }

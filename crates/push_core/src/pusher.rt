@@ -1,5 +1,5 @@
 //! A source as a machine.
-ghost use Rattle.std.specs.Prelude.{◌≡◌, ◌↔◌, length, IsNone};
+ghost use Rattle.std.specs.Prelude.{◌≡◌, ◌↔◌, ℕ, length, IsNone};
 ghost use Rattle.push_core.specs.declared.point.Point.TheVariants as point;
 ghost use Rattle.push_core.specs.Table.{first_row, IsPort, IsFew, IsRowFor, IsLeft, IsSettled, IsAnswer, FindsOlder, want_of, take_of, point_of, phase_of};
 
@@ -23,6 +23,7 @@ impl Pusher {
         requires { IsPort port }
         ensures port { result.port ≡ port }
         ensures row { result.row ≡ first_row }
+        ensures fits { (number : ℕ) → IsRowFor port number result.row }
     {
         Pusher {
             port,

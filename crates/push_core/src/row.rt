@@ -1,5 +1,6 @@
 //! A source's place in its access table.
 ghost use Rattle.std.specs.Prelude.{◌≡◌, ◌+◌, ◌≤◌, ◌<◌, ◌^◌, ◌/◌, ◌%◌, length, false};
+ghost use Rattle.fram_words.specs.Held.{src_of};
 ghost use Rattle.push_core.specs.Table.{first_row, row_at, publication, access_of, take_of, point_of, is_left, IsFew, IsPort, IsRowFor, IsAnswer};
 ghost use Rattle.push_core.specs.declared.stage.Stage.TheVariants.{LoadSlots, LoadTail};
 
@@ -8,7 +9,7 @@ use crate::port::Port;
 use crate::slot::{empty, full};
 use crate::stage::Stage;
 use crate::steps::{after_ack, after_boot_slot, after_publish, after_slot, is_full_at, shows_own};
-use fram_words::Access;
+use fram_words::{Access, read_src};
 
 /// A source's place in its access table: the number of its accepted events and its next reading, as far as it knows them (0 before
 /// it has loaded SRC), and the row.
@@ -116,11 +117,12 @@ impl Row {
 
     /// The row with the numbers of a loaded SRC.
     fn loaded(word: u64) -> Row
-        ensures { result ≡ row_at (word % 2 ^ 32) (word / 2 ^ 32) (LoadSlots 0 false) }
+        ensures { result ≡ row_at (src_of word).accepted (src_of word).next (LoadSlots 0 false) }
     {
+        let src = read_src(word);
         Row {
-            accepted: (word % (1 << 32)) as u32,
-            next: (word >> 32) as u32,
+            accepted: src.accepted,
+            next: src.next,
             stage: Stage::LoadSlots {
                 slot: 0,
                 seen: false,

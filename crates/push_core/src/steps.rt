@@ -46,7 +46,7 @@ pub(crate) fn after_boot_slot(places: u8, slot: u8, seen: bool) -> Stage
 
 /// After the load of ACK: whether the next reading, if one is left, was published before the boot.
 pub(crate) fn after_ack(accepted: u32, is_left: bool, seen: bool, word: u64) -> Stage
-    requires { accepted ≤ 65535 }
+    requires { accepted ≤ 131070 }
     ensures { result ≡ table.after_ack accepted is_left seen word }
 {
     if is_left && (seen || word == (accepted as u64 + 1) % 64) {

@@ -1,6 +1,6 @@
 -- The accesses of a boot.
 use Rattle.std.proofs.Common.{◌≡◌, ◌≢◌, ℕ, ◌+◌, ◌%◌, ◌<◌, ◌≤◌, Bool, true, false, List, [], ◌∷◌, length, Option, Some, None, arith, refl, ap, ◌∙◌, sym, inl, inr, subst}
-use Rattle.std.specs.Prelude.{◌==◌, nat_lt}
+use Rattle.std.specs.Prelude.{suc, max, ◌==◌, nat_lt}
 use Rattle.std.proofs.lemmas.Bool.{cases_Bool, cases_eq, eqb-true, eqb-false, eq-eqb, ne_eqb, ltb-true, ltb-false}
 use Rattle.ink_base.specs.declared.ids.ThreadId.{ThreadId}
 use Rattle.ink_base.specs.declared.ids.SourceId.{SourceId}
@@ -10,6 +10,7 @@ use Rattle.ink_base.specs.declared.event.Origin.TheVariants as origins
 use Rattle.task_isa.specs.declared.program.Program.{Program}
 use Rattle.fram_words.specs.Places.{Memory, Load, store}
 use Rattle.fram_words.specs.Places as places
+use Rattle.fram_words.specs.Header as header
 use Rattle.fram_words.proofs.Frames.{store-same}
 use Rattle.thread_state.specs.Pages.{committed, place_in}
 use Rattle.push_core.specs.Slots.{slot_in, empty_word}
@@ -33,7 +34,7 @@ use Rattle.reboot.specs.declared.boot_at.BootAt.{BootAt}
 use Rattle.reboot.specs.declared.boot_at.BootAt.TheVariants.{Commit, Stamp, Finished, Slot, Ack, Empty, Over}
 use Rattle.reboot.specs.declared.machine.BootMachine.{BootMachine}
 use Rattle.reboot.specs.Boot.{boot_at, boot_begun, boot_next, after_slot}
-use Rattle.reboot.specs.Knows.{finished_events, IsCounted, BootHolds, BootStep}
+use Rattle.reboot.specs.Knows.{finished_events, last_stamp, greatest, IsCounted, BootHolds, BootStep}
 
 -- what holds below a number and at it
 pub up_to : (P : ℕ → Type 0) (t : ℕ) → ((u : ℕ) → u < t → P u) → P t → (u : ℕ) → u ≤ t → P u
@@ -42,12 +43,20 @@ up_to P t below here u le = elim (cases_eq u t) [ inl e ↦ subst P (sym e) here
 -- the thread at hand was passed: it has no finished event, and its stamp counts
 pub goes_on : (program : Program) (words : Memory) (m : Model) (thread : ThreadId) (stamp : ℕ) → thread.0 < length program.threads →
     ((u : ℕ) → u ≤ thread.0 → (thread_of m u).finished ≡ false) → ((u : ℕ) → u ≤ thread.0 → IsCounted words u stamp) → stamp ≤ m.commits →
-    BootHolds program words m (boot_next program thread stamp)
-goes_on program words m thread stamp known passed counted below =
+    stamp ≡ greatest (last_stamp words) (suc thread.0) → BootHolds program words m (boot_next program thread stamp)
+goes_on program words m thread stamp known passed counted below top =
     elim (cases_Bool (nat_lt (thread.0 + 1) (length program.threads))) [
       | inl e ↦
           let lt : thread.0 + 1 < length program.threads = ltb-true (thread.0 + 1) (length program.threads) e in
-          rw e (record { known = lt; passed = λ u l. passed u (omega arith); counted = λ u l. counted u (omega arith); below = below; knows = tt })
+          let next : suc thread.0 ≡ thread.0 + 1 = omega arith in
+          rw e (record {
+            known = lt;
+            passed = λ u l. passed u (omega arith);
+            counted = λ u l. counted u (omega arith);
+            below = below;
+            greatest_is = top ∙ ap (greatest (last_stamp words)) next;
+            knows = tt;
+          })
       | inr e ↦
           let ge : length program.threads ≤ thread.0 + 1 = ltb-false (thread.0 + 1) (length program.threads) e in
           rw e (record {
@@ -55,6 +64,7 @@ goes_on program words m thread stamp known passed counted below =
             passed = λ u l. passed u (omega arith);
             counted = λ u l. counted u (omega arith);
             below = below;
+            greatest_is = top;
             knows = (record { last = ge; clear = passed thread.0 (omega arith) }, counted thread.0 (omega arith));
           })
     ]
@@ -65,6 +75,7 @@ boot_begins program readings words m b = record {
   passed = λ u l. absurd (omega arith);
   counted = λ u l. absurd (omega arith);
   below = omega arith;
+  greatest_is = refl;
   knows = tt;
 }
 
@@ -81,23 +92,24 @@ commit_step : (program : Program) (readings : Readings) (words : Memory) (m : Mo
     BootHolds program words m (boot_at thread stamp Commit) → BootStep program readings words m (boot_at thread stamp Commit)
 commit_step program readings words m thread stamp b h = record {
   kept = load_kept program readings words m (places.Commit thread.0) b;
-  holds = record { known = h.known; passed = h.passed; counted = h.counted; below = h.below; knows = refl };
+  holds = record { known = h.known; passed = h.passed; counted = h.counted; below = h.below; greatest_is = h.greatest_is; knows = refl };
 }
 
 -- the load of a stamp
 stamp_step : (program : Program) (readings : Readings) (words : Memory) (m : Model) (thread : ThreadId) (stamp c : ℕ) → Background program readings words m →
     BootHolds program words m (boot_at thread stamp (Stamp c)) → BootStep program readings words m (boot_at thread stamp (Stamp c))
 stamp_step program readings words m thread stamp c b h =
-    let word : words (place_in thread.0 c 0) ≡ committed words thread.0 0 = ap (λ k. words (place_in thread.0 k 0)) h.knows in
-    let top : committed words thread.0 0 ≤ m.commits = b.private.stamps thread.0 h.known in
+    let word : words (place_in thread.0 c header.stamp) ≡ committed words thread.0 header.stamp = ap (λ k. words (place_in thread.0 k header.stamp)) h.knows in
+    let top : committed words thread.0 header.stamp ≤ m.commits = b.private.stamps thread.0 h.known in
     let below : stamp ≤ m.commits = h.below in
     record {
-      kept = load_kept program readings words m (place_in thread.0 c 0) b;
+      kept = load_kept program readings words m (place_in thread.0 c header.stamp) b;
       holds = record {
         known = h.known;
         passed = h.passed;
-        counted = λ u l. let old : committed words u 0 ≤ stamp = h.counted u l in omega arith;
+        counted = λ u l. let old : committed words u header.stamp ≤ stamp = h.counted u l in omega arith;
         below = omega arith;
+        greatest_is = ap (λ k. max stamp k) word ∙ ap (λ k. max k (committed words thread.0 header.stamp)) h.greatest_is;
         knows = (h.knows, omega arith);
       };
     }
@@ -107,21 +119,21 @@ finished_step : (program : Program) (readings : Readings) (words : Memory) (m : 
     BootHolds program words m (boot_at thread stamp (Finished c)) → BootStep program readings words m (boot_at thread stamp (Finished c))
 finished_step program readings words m thread stamp c b h =
     let t : ℕ = thread.0 in
-    let word : words (place_in thread.0 c 5) ≡ finished_events m thread.0 =
-    ap (λ k. words (place_in thread.0 k 5)) h.knows.0 ∙ finished_word program words m thread.0 h.known b.private in
+    let word : words (place_in thread.0 c header.finished) ≡ finished_events m thread.0 =
+    ap (λ k. words (place_in thread.0 k header.finished)) h.knows.0 ∙ finished_word program words m thread.0 h.known b.private in
     record {
-      kept = load_kept program readings words m (place_in thread.0 c 5) b;
+      kept = load_kept program readings words m (place_in thread.0 c header.finished) b;
       holds =
-          elim (cases_Bool (words (place_in thread.0 c 5) == 0)) [
+          elim (cases_Bool (words (place_in thread.0 c header.finished) == 0)) [
             | inl e ↦
-                let none : words (place_in thread.0 c 5) ≡ 0 = eqb-true (words (place_in thread.0 c 5)) 0 e in
+                let none : words (place_in thread.0 c header.finished) ≡ 0 = eqb-true (words (place_in thread.0 c header.finished)) 0 e in
                 let clear : (thread_of m thread.0).finished ≡ false = flag_zero (thread_of m thread.0).finished (omega arith) in
                 rw e (goes_on program words m thread stamp h.known
                 (up_to (λ u. (thread_of m u).finished ≡ false) thread.0 h.passed clear)
-                (up_to (λ u. IsCounted words u stamp) thread.0 h.counted h.knows.1) h.below)
+                (up_to (λ u. IsCounted words u stamp) thread.0 h.counted h.knows.1) h.below h.greatest_is)
             | inr e ↦
-                let some : words (place_in thread.0 c 5) ≢ 0 = eqb-false (words (place_in thread.0 c 5)) 0 e in
-                rw e (record { known = h.known; passed = h.passed; counted = h.counted; below = h.below; knows = (omega arith, h.knows.1) })
+                let some : words (place_in thread.0 c header.finished) ≢ 0 = eqb-false (words (place_in thread.0 c header.finished)) 0 e in
+                rw e (record { known = h.known; passed = h.passed; counted = h.counted; below = h.below; greatest_is = h.greatest_is; knows = (omega arith, h.knows.1) })
           ];
     }
 
@@ -143,6 +155,7 @@ event_shown program words m thread stamp p (origins.Source source count) value h
       passed = h.passed;
       counted = h.counted;
       below = h.below;
+      greatest_is = h.greatest_is;
       knows = (record { position = sym at; finishing = record { value = value; first = first; finished = is } }, h.knows.1);
     })
 event_shown program words m thread stamp p (origins.Pipe pipe item) value h queued first is at = absurd queued
@@ -182,7 +195,7 @@ slot_step program readings words m thread stamp p b h =
                 (old_slot program thread.0 size _ _ p x queue at)
                 (goes_on program words m thread stamp h.known
                 (up_to (λ u. (thread_of m u).finished ≡ false) thread.0 h.passed clear)
-                (up_to (λ u. IsCounted words u stamp) thread.0 h.counted h.knows.1) h.below)
+                (up_to (λ u. IsCounted words u stamp) thread.0 h.counted h.knows.1) h.below h.greatest_is)
           ];
     }
 
@@ -211,6 +224,7 @@ ack_step program readings words m thread stamp p source count b h =
         passed = h.passed;
         counted = h.counted;
         below = h.below;
+        greatest_is = h.greatest_is;
         knows = (record { source = source.0; count = count; event = h.knows.0; stored = store-same words (places.Ack source.0) v }, h.knows.1);
       };
     }
@@ -242,7 +256,7 @@ empty_step program readings words m thread stamp p b h =
       holds = goes_on program new next thread stamp h.known
           (up_to (λ u. (thread_of next u).finished ≡ false) thread.0
           (λ u l. ap (λ (y : ThreadModel). y.finished) (release_other m thread.0 u (λ e. omega arith)) ∙ h.passed u l) (release_calm m thread.0 lt))
-          (up_to (λ u. IsCounted words u stamp) thread.0 h.counted h.knows.1) h.below;
+          (up_to (λ u. IsCounted words u stamp) thread.0 h.counted h.knows.1) h.below h.greatest_is;
     }
 
 over_step : (program : Program) (readings : Readings) (words : Memory) (m : Model) (thread : ThreadId) (stamp : ℕ) → Background program readings words m →

@@ -11,7 +11,7 @@ use Rattle.never_cut.proofs.Follows.{follow_finished, follow_released, follow_fi
 use Rattle.reboot.specs.declared.boot_at.BootAt.{BootAt}
 use Rattle.reboot.specs.declared.boot_at.BootAt.TheVariants as rows
 use Rattle.reboot.specs.declared.machine.BootMachine.{BootMachine}
-use Rattle.reboot.specs.Knows.{finished_events, IsCounted, KnowsEvent, BootKnows, BootHolds}
+use Rattle.reboot.specs.Knows.{finished_events, greatest, shown, IsCounted, KnowsEvent, BootKnows, BootHolds}
 
 counted_drifts : (words new : Memory) (t stamp : ℕ) → SamePrivate words new → IsCounted words t stamp → IsCounted new t stamp
 counted_drifts words new t stamp same h = rw (committed-same words new t 0 same) h
@@ -51,5 +51,6 @@ boot_drifts program words new m next boot same f h = record {
   passed = λ u l. follow_finished m next u f ∙ h.passed u l;
   counted = λ u l. counted_drifts words new u boot.stamp same (h.counted u l);
   below = rw f.commits h.below;
+  greatest_is = h.greatest_is ∙ (λ i. greatest (λ u. sym (committed-same words new u 0 same) i) (shown boot.thread.0 boot.at));
   knows = row_drifts program words new m next boot.thread.0 boot.stamp boot.at same f h.knows;
 }

@@ -2,6 +2,7 @@
 use Rattle.std.proofs.Common.{◌≡◌, ℕ, ◌+◌, ◌<◌, ◌≤◌, false, length, Some, arith, ◌∙◌, sym, inl, inr}
 use Rattle.std.proofs.lemmas.Option.{same_Some}
 use Rattle.task_isa.specs.declared.program.Program.{Program}
+use Rattle.fram_words.specs.Header as header
 use Rattle.fram_words.specs.Places.{Memory}
 use Rattle.thread_state.specs.Pages.{committed}
 use Rattle.never_cut.specs.declared.model.Model.{Model}
@@ -22,7 +23,7 @@ stamp_all : (program : Program) (words : Memory) (m : Model) (stamp : ℕ) → S
 stamp_all program words m stamp h counted below =
     elim h.newest [
       | inl e ↦ omega arith
-      | inr e ↦ let top : committed words e.0 0 ≤ stamp = counted e.0 e.1 in let newest : committed words e.0 0 ≡ m.commits = e.2 in omega arith
+      | inr e ↦ let top : committed words e.0 header.stamp ≤ stamp = counted e.0 e.1 in let newest : committed words e.0 header.stamp ≡ m.commits = e.2 in omega arith
     ]
 
 pub boot_ends : (program : Program) (readings : Readings) (words : Memory) (m : Model) (boot : BootMachine) (stamp : ℕ) → Background program readings words m →

@@ -5,6 +5,7 @@ use Rattle.std.proofs.Math.Nat.{add-mod_right}
 use Rattle.ink_base.specs.declared.event.Event.{Event}
 use Rattle.task_isa.specs.declared.program.Program.{Program}
 use Rattle.fram_words.specs.Places.{Memory, answer}
+use Rattle.fram_words.specs.Header as header
 use Rattle.thread_state.specs.Pages.{place_in}
 use Rattle.push_core.specs.Slots.{slot_in}
 use Rattle.prog_check.specs.Lookup.{thread_def, source_thread}
@@ -97,7 +98,7 @@ word_in_range : (program : Program) (readings : Readings) (words : Memory) (m : 
 word_in_range program readings words m t stamp Commit b known h = tt
 word_in_range program readings words m t stamp (Stamp c) b known h = tt
 word_in_range program readings words m t stamp (Finished c) b known h =
-    let word : words (place_in t c 5) ≡ finished_events m t = ap (λ k. words (place_in t k 5)) h.0 ∙ finished_word program words m t known b.private in
+    let word : words (place_in t c header.finished) ≡ finished_events m t = ap (λ k. words (place_in t k header.finished)) h.0 ∙ finished_word program words m t known b.private in
     rw word (events_small program readings words m t b known)
 word_in_range program readings words m t stamp (Slot p) b known h =
     let few : flag (thread_of m t).finished ≤ 1 = flag_small (thread_of m t).finished in

@@ -4,6 +4,7 @@ use Rattle.ink_base.specs.declared.ids.ThreadId.{ThreadId}
 use Rattle.task_isa.specs.declared.program.Program.{Program}
 use Rattle.fram_words.specs.Places.{Access, Load, Store}
 use Rattle.fram_words.specs.Places as places
+use Rattle.fram_words.specs.Header as header
 use Rattle.thread_state.specs.Pages.{place_in}
 use Rattle.push_core.specs.Slots.{empty_word, slot_in}
 use Rattle.push_core.specs.declared.slot.Slot as slot
@@ -27,8 +28,8 @@ boot_begun = boot_at (record { 0 = 0 }) 0 Commit
 -- the access of each row, for thread t; a boot that is over has none to make
 abbrev pub boot_wants : Program → (t : ℕ) → BootAt → Access
 boot_wants program t Commit = Load (places.Commit t)
-boot_wants program t (Stamp c) = Load (place_in t c 0)
-boot_wants program t (Finished c) = Load (place_in t c 5)
+boot_wants program t (Stamp c) = Load (place_in t c header.stamp)
+boot_wants program t (Finished c) = Load (place_in t c header.finished)
 boot_wants program t (Slot p) = Load (slot_place program t p)
 boot_wants program t (Ack p source count) = Store (places.Ack source.0) ((count + 1) % 64)
 boot_wants program t (Empty p) = Store (slot_place program t p) (empty_word (p + (thread_def program t).queue))

@@ -12,12 +12,12 @@ ghost use Rattle.task_isa.specs.declared.program.Program.{Program};
 ghost use Rattle.reboot.specs.Boot.{boot_begun, boot_wants, boot_takes, boot_next, after_slot, boot_point, boot_stamp, boot_slot, IsBoot, IsBootWord, IsOfSource};
 
 use crate::boot_at::BootAt;
-use fram_words::{Access, Place, Step};
+use fram_words::{Access, Header, Place, Step};
 use ink_base::ThreadId;
 use ink_layout::{KernelPoint, Plan, SlotAt, slot_of};
 use push_core::{Slot, empty, read_slot};
 use task_isa::Program;
-use thread_state::place_in;
+use thread_state::header_in;
 
 /// The kernel at the start of a charge: the thread at hand, the greatest stamp that it has loaded, and the row of the access table.
 #[derive(Clone, Copy)]
@@ -72,8 +72,16 @@ impl BootMachine {
         let thread = self.thread;
         match self.at {
             BootAt::Commit | BootAt::Over => Step::Load(Place::Commit { thread }),
-            BootAt::Stamp { commit_word } => Step::Load(place_in(thread, commit_word, 0)),
-            BootAt::Finished { commit_word } => Step::Load(place_in(thread, commit_word, 5)),
+            BootAt::Stamp { commit_word } => Step::Load(header_in(
+                thread,
+                commit_word,
+                Header::Stamp,
+            )),
+            BootAt::Finished { commit_word } => Step::Load(header_in(
+                thread,
+                commit_word,
+                Header::Finished,
+            )),
             BootAt::Slot { position } => Step::Load(slot_of(program, thread, position)),
             BootAt::Ack { source, count, .. } => Step::Store(
                 Place::Ack { source },
@@ -118,9 +126,10 @@ impl BootMachine {
         }
     }
 
-    /// What the access stands for.
-    fn point(self) -> KernelPoint
-        ensures { result ≡ boot_point self.thread self.at }
+    /// What the wanted access stands for, whatever word it finds: what `take` answers.
+    #[inline(always)]
+    pub fn point(&self) -> KernelPoint
+        ensures { result ≡ boot_point self.now.thread self.now.at }
     {
         match self.at {
             BootAt::Empty { .. } => KernelPoint::Release(self.thread),

@@ -39,10 +39,10 @@ module _ {i places readings : ℕ} {slot : ℕ → ℕ} {v : Near} (o : Own i pl
   fits a k StoreSkip h = (omega (arith, h.0.accepted, h.0.next, o.ordered.accepted), omega (arith, h.2), h.2)
   fits a k StoreAccepted h = (omega (arith, h.accepted, h.next, o.ordered.accepted), omega (arith, h.next, o.ordered.next), omega (arith, h.next, o.ordered.next))
 
-  src_fits : (v.src % 2 ^ 32 ≤ v.src / 2 ^ 32) × (v.src / 2 ^ 32 ≤ readings)
+  src_fits : (v.src % 2 ^ 32 ≤ readings) × (v.src / 2 ^ 32 ≤ readings)
   src_fits = elim (stored_as o.source (v.src % 2 ^ 32) (v.src / 2 ^ 32) (omega arith) (omega (arith, o.ordered.accepted, o.ordered.next, o.few)) (omega arith)) [
-    | inl same ↦ (omega (arith, same, o.ordered.accepted), omega (arith, same, o.ordered.next))
-    | inr late ↦ (omega (arith, late, o.ordered.accepted), omega (arith, late, o.ordered.next))
+    | inl same ↦ (omega (arith, same, o.ordered.accepted, o.ordered.next), omega (arith, same, o.ordered.next))
+    | inr late ↦ (omega (arith, late, o.ordered.accepted, o.ordered.next), omega (arith, late, o.ordered.next))
   ]
 
 module _ (board : Board) (x : State) (i : ℕ) (w : IsWithin board) (lt : i < board.shape.sources) (h : Kept board x) where
@@ -54,7 +54,7 @@ module _ (board : Board) (x : State) (i : ℕ) (w : IsWithin board) (lt : i < bo
   unfolding RowFits
   row_fits port =
       let f = fits (own_of board x i w lt h) bound_of (x.row i).accepted (x.row i).next (x.row i).stage (h.sources i).knows in
-      record { place = port; accepted = f.0; next = f.1; stage = f.2 }
+      record { place = port; accepted = omega (arith, f.0); next = f.1; stage = f.2 }
 
   answer_at : (a k : ℕ) (stage : Stage) → IsAnswer (length (board.readings i)) stage (found board x.word i (row_at a k stage))
   answer_at a k LoadSrc = src_fits (own_of board x i w lt h) bound_of

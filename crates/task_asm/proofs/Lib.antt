@@ -1,2 +1,1 @@
-pub mod LabelMap
 pub mod SectionSteps

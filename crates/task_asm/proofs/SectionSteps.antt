@@ -4,7 +4,7 @@ use Rattle.ink_base.specs.Lines.{Line}
 use Rattle.ink_base.specs.declared.fault.Cause.TheVariants.{Missing}
 use Rattle.ink_base.specs.declared.fault.JobFault.{JobFault}
 use Rattle.ink_base.specs.declared.fault.JobAnswer.{JobAnswer}
-use Rattle.task_asm.specs.declared.draft.Draft.{Draft}
+use Rattle.task_lines.specs.declared.draft.Draft.{Draft}
 use Rattle.ink_base.specs.Gives.{◌>>◌, at_line, Answers}
 use Rattle.ink_base.proofs.Failing.{Answers-step}
 use Rattle.task_asm.specs.Task.{line_in}

@@ -1,11 +1,3 @@
-pub mod Labels
-pub mod Named
-pub mod Place
-pub mod Forms
-pub mod Devices
-pub mod Ops
-pub mod Operands
-pub mod Outside
 pub mod Task
 pub mod Targets
 pub mod Section

@@ -10,9 +10,9 @@ use Rattle.ink_base.specs.Gives.{◌>>◌, at_line}
 use Rattle.ink_base.specs.Checks.{end_in}
 use Rattle.task_isa.specs.declared.lines.Lines.{Lines}
 use Rattle.task_isa.specs.declared.program.Program.{Program}
-use Rattle.task_asm.specs.declared.draft.DraftLine.{DraftLine}
-use Rattle.task_asm.specs.declared.draft.DraftTask.{DraftTask}
-use Rattle.task_asm.specs.declared.draft.Draft.{Draft}
+use Rattle.task_lines.specs.declared.draft.DraftLine.{DraftLine}
+use Rattle.task_lines.specs.declared.draft.DraftTask.{DraftTask}
+use Rattle.task_lines.specs.declared.draft.Draft.{Draft}
 use Rattle.task_asm.specs.Task.{line_in}
 use Rattle.task_asm.specs.Targets.{program_of}
 

@@ -9,14 +9,14 @@ use Rattle.task_isa.specs.declared.instr.Instr.{Instr}
 use Rattle.task_isa.specs.declared.instr.Instr.TheVariants.{Jmp, Jz, Jnz, Next}
 use Rattle.task_isa.specs.declared.program.Task.{Task}
 use Rattle.task_isa.specs.declared.program.Program.{Program}
-use Rattle.task_asm.specs.declared.draft.DraftInstr.{DraftInstr}
-use Rattle.task_asm.specs.declared.draft.DraftInstr.TheVariants as drafts
-use Rattle.task_asm.specs.declared.draft.DraftLine.{DraftLine}
-use Rattle.task_asm.specs.declared.draft.DraftTask.{DraftTask}
-use Rattle.task_asm.specs.declared.draft.Draft.{Draft}
-use Rattle.task_asm.specs.Labels.{offset_of}
-use Rattle.task_asm.specs.Named.{place_of}
-use Rattle.task_asm.specs.Outside.{task_name}
+use Rattle.task_lines.specs.declared.draft.DraftInstr.{DraftInstr}
+use Rattle.task_lines.specs.declared.draft.DraftInstr.TheVariants as drafts
+use Rattle.task_lines.specs.declared.draft.DraftLine.{DraftLine}
+use Rattle.task_lines.specs.declared.draft.DraftTask.{DraftTask}
+use Rattle.task_lines.specs.declared.draft.Draft.{Draft}
+use Rattle.task_lines.specs.Labels.{offset_of}
+use Rattle.task_lines.specs.Named.{place_of}
+use Rattle.task_lines.specs.Outside.{task_name}
 
 -- an instruction with its target, if that is there
 abbrev pub aimed : List DraftTask → List (Word × ℕ) → DraftInstr → Option Instr

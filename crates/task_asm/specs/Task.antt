@@ -6,14 +6,14 @@ use Rattle.ink_base.specs.Lines.{Word}
 use Rattle.ink_base.specs.declared.fault.Cause.{Cause}
 use Rattle.ink_base.specs.Gives.{◌>>=◌}
 use Rattle.ink_base.specs.Checks.{end_in}
-use Rattle.task_asm.specs.declared.draft.DraftTask.{DraftTask}
-use Rattle.task_asm.specs.declared.draft.Draft.{Draft}
-use Rattle.task_asm.specs.Labels.{offset_of, with_label}
-use Rattle.task_asm.specs.Named.{fresh_of}
-use Rattle.task_asm.specs.Ops.{op_of}
-use Rattle.task_asm.specs.Operands.{instr_in}
-use Rattle.task_asm.specs.Forms.{room}
-use Rattle.task_asm.specs.Outside.{outside_line}
+use Rattle.task_lines.specs.declared.draft.DraftTask.{DraftTask}
+use Rattle.task_lines.specs.declared.draft.Draft.{Draft}
+use Rattle.task_lines.specs.Labels.{offset_of, with_label}
+use Rattle.task_lines.specs.Named.{fresh_of}
+use Rattle.task_lines.specs.Ops.{op_of}
+use Rattle.task_lines.specs.Operands.{instr_in}
+use Rattle.task_lines.specs.Forms.{room}
+use Rattle.task_lines.specs.Outside.{outside_line}
 
 -- what stands before a colon at the end of a word
 abbrev pub label_of : Word → Option Word

@@ -5,12 +5,12 @@ ghost use Rattle.ink_base.specs.Gives.{GivesJob};
 ghost use Rattle.task_asm.specs.Section.{code_lines, lines_of_draft};
 ghost use Rattle.task_asm.specs.Targets.{program_of};
 
-use crate::draft::{Draft, DraftTask};
 use crate::targets::tasks_of;
 use ink_base::{JobAnswer, NoMemory};
 use sqlite_items::Items;
 use std::alloc::Global;
 use task_isa::{Lines, Program};
+use task_lines::{Draft, DraftTask};
 
 fn code_lines(alloc: Global, task: &DraftTask) -> Result<Items<u32>, NoMemory>
     ensures { IfOk result (λ lines. lines ≡ code_lines task.now) }

@@ -7,11 +7,9 @@ ghost use Rattle.ink_base.specs.Suffix.{IsSuffix};
 ghost use Rattle.ink_base.specs.TokenLines.{token_lines};
 ghost use Rattle.ink_base.specs.Tokens.{AreTokens};
 ghost use Rattle.task_asm.specs.Section.{is_header, header_in, first_header_in, section_in, program_in, program_at, empty_draft};
-ghost use Rattle.task_asm.specs.Place.{HasPlace};
+ghost use Rattle.task_lines.specs.Place.{HasPlace};
 ghost use Rattle.task_asm.specs.Task.{line_in};
 
-use crate::draft::Draft;
-use crate::few::Few;
 use crate::finish::finish;
 use crate::task::read_line;
 use ink_base::checks::{end, word};
@@ -20,6 +18,7 @@ use ink_base::{Cause, JobAnswer, JobFault, LineError, Token, Tokens};
 use sqlite_items::Items;
 use std::alloc::Global;
 use task_isa::{Lines, Program};
+use task_lines::{Draft, Few};
 
 fn is_header(text: &[u8], words: &[Token]) -> bool
     ensures { result ≡ is_header (words_of text.now words.now) }

@@ -2,18 +2,15 @@
 
 ghost use Rattle.std.specs.Prelude.{◌≡◌};
 ghost use Rattle.ink_base.specs.Gives.{GivesJob, each};
-ghost use Rattle.task_asm.specs.Named.{place_of};
-ghost use Rattle.task_asm.specs.Outside.{task_name};
+ghost use Rattle.task_lines.specs.Named.{place_of};
+ghost use Rattle.task_lines.specs.Outside.{task_name};
 ghost use Rattle.task_asm.specs.Targets.{aimed, instr_of, code_of, task_of};
 
-use crate::draft::{DraftInstr, DraftLine, DraftTask};
-use crate::few::Few;
-use crate::labels::Labels;
-use crate::named::place_of;
 use ink_base::{Cause, JobAnswer, JobFault};
 use sqlite_items::Items;
 use std::alloc::Global;
 use task_isa::{Instr, Task};
+use task_lines::{DraftInstr, DraftLine, DraftTask, Few, Labels, place_of};
 
 fn number_of(tasks: &Few<DraftTask>, name: &[u8]) -> Option<u32>
     ensures { result ≡ place_of task_name tasks.now name.now }

@@ -4,18 +4,13 @@ ghost use Rattle.std.specs.Prelude.{◌≡◌, ◌<◌, length, IsNone, OnOk};
 ghost use Rattle.std.specs.Option.{option_map};
 ghost use Rattle.ink_base.specs.Checks.{words_of};
 ghost use Rattle.ink_base.specs.Gives.{Leaves};
-ghost use Rattle.task_asm.specs.Place.{HasPlace};
+ghost use Rattle.task_lines.specs.Place.{HasPlace};
 ghost use Rattle.task_asm.specs.Task.{label_of, label_line, instr_line, end_line, inside_line, line_in};
 
-use crate::draft::{Draft, DraftLine, DraftTask};
-use crate::forms::room;
-use crate::named::fresh;
-use crate::op::op_of;
-use crate::operands::instr;
-use crate::outside::read_outside;
 use ink_base::checks::{end, word};
 use ink_base::{LineError, Token};
 use std::alloc::Global;
+use task_lines::{Draft, DraftLine, DraftTask, fresh, op_of, read_operands, read_outside, room};
 
 fn label_of(word: &[u8]) -> Option<&[u8]>
     ensures { option_map (λ x. x.now) result ≡ label_of word.now }
@@ -64,7 +59,7 @@ fn read_instr(
 {
     let op = op_of(word)?;
     room(4096, draft.count as usize)?;
-    let instr = instr(alloc, draft, task.thread, op, text, words)?;
+    let instr = read_operands(alloc, draft, task.thread, op, text, words)?;
     task.code.push(DraftLine { line, instr })?;
     draft.current = Some(task);
     draft.count += 1;

@@ -22,7 +22,7 @@ use Rattle.task_run.specs.declared.phase.Phase.{Phase}
 use Rattle.task_run.specs.declared.phase.Phase.TheVariants.{WriteCount, LoadTaken, WriteWritten}
 use Rattle.task_run.specs.declared.machine.TaskMachine.{TaskMachine}
 use Rattle.task_run.specs.Machine.{Action, Put, Get, Make, action, want, take}
-use Rattle.task_run.specs.Serving.{rings_of, AreSent, Told, told, Progress, IsReady, Serving}
+use Rattle.task_run.specs.kept.Serving.{rings_of, AreSent, Told, told, Progress, IsReady, Serving}
 
 -- the registers in a phase
 abbrev pub machine_at : Pick → ℕ → Buffer → Ending → Execution → Phase → TaskMachine

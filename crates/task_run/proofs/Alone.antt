@@ -4,6 +4,8 @@ use Rattle.std.proofs.lemmas.Bool.{false≢true, cases_Bool, cases_lt, lt-ltb, l
 use Rattle.ink_base.specs.declared.ids.TaskId.{TaskId}
 use Rattle.ink_base.specs.declared.event.Origin.{Origin}
 use Rattle.ink_base.specs.declared.event.Origin.TheVariants as origins
+use Rattle.fram_words.specs.Header as header
+use Rattle.fram_words.specs.Held.{FitsOrigin}
 use Rattle.thread_state.specs.Pages.{Buffer, is_dirty, after_copy, no_writes}
 use Rattle.event_pipe.specs.Ring.{has_room}
 use Rattle.task_isa.specs.declared.act.Act.{Act}
@@ -25,25 +27,25 @@ use Rattle.task_run.specs.declared.phase.Phase.TheVariants.{WriteFirst, WriteOri
 use Rattle.task_run.specs.declared.machine.TaskMachine.{TaskMachine}
 use Rattle.task_run.specs.Endings.{total_word}
 use Rattle.task_run.specs.Machine.{Action, Put, Get, Make, action, want, take, after, after_action, after_act, after_fetch, after_event, after_value, after_written, after_next, after_commit, release_phase, end_phase, phase_again, first_phase, running_task, begin, proceed, stepped, trap, instr_of, cpu_of, given_by, execution_of, is_late, is_over}
-use Rattle.task_run.specs.Fits.{FitsExecution, FitsOrigin, FitsChain, FitsPhase, FitsWord}
-use Rattle.task_run.specs.Serving.{IsOfPipe, IsOfTimer}
+use Rattle.task_run.specs.Fits.{FitsExecution, FitsChain, FitsPhase, FitsWord}
+use Rattle.task_run.specs.kept.Serving.{IsOfPipe, IsOfTimer}
 use Rattle.task_run.specs.Reached.{task_loaded, GoesOn, IsPhaseOf, IsServiceOf}
 use Rattle.task_run.proofs.Accesses.{machine_at}
 use Rattle.task_run.proofs.Acts.{Lands, task_lands}
 use Rattle.task_run.proofs.Limits.{execution_fits}
 
--- a header word by its number
-header : (w : ℕ) → 8 * (w / 8) + w % 8 ≡ w
-header w = omega arith
+-- a word of a block by its page and its number there
+whole_word : (w : ℕ) → 8 * (w / 8) + w % 8 ≡ w
+whole_word w = omega arith
 
 -- the header words of totals
-total_low : (ending : Ending) → 6 ≤ total_word ending
+total_low : (ending : Ending) → header.served ≤ total_word ending
 total_low (endings.Next task) = omega arith
 total_low endings.Done = omega arith
 total_low endings.Trapped = omega arith
 total_low endings.Expired = omega arith
 
-total_high : (ending : Ending) → total_word ending ≤ 8
+total_high : (ending : Ending) → total_word ending ≤ header.expired
 total_high (endings.Next task) = omega arith
 total_high endings.Done = omega arith
 total_high endings.Trapped = omega arith
@@ -53,21 +55,21 @@ total_high endings.Expired = omega arith
 pub task_word : (program : Program) (pick : Pick) (stamp : ℕ) (b : Buffer) (ending : Ending) (e : Execution) (phase : Phase) (word : ℕ) → IsAccepted program →
     FitsPhase program (machine_at pick stamp b ending e phase) phase →
     IsAnswerTo program (task_loaded (machine_at pick stamp b ending e phase)) (want program (machine_at pick stamp b ending e phase)) word → FitsWord program phase word
-task_word program pick stamp b ending e ReadPeriod word accepted fits h = h.period (number_of pick.event.origin) fits.0 (header (27 + 2 * number_of pick.event.origin))
+task_word program pick stamp b ending e ReadPeriod word accepted fits h = h.period (number_of pick.event.origin) fits.0 (whole_word (header.period (number_of pick.event.origin)))
 task_word program pick stamp b ending e (LoadTaken s commit) word accepted fits h =
     let most : length program.pipes ≤ 8 = accepted.counts.pipes in
     let known : s.pipe < length program.pipes = fits.1 in
-    let low : word < 4294967295 = h.taken (rw (header (18 + s.pipe)) (omega arith)) (rw (header (18 + s.pipe)) (omega arith)) in omega arith
+    let low : word < 4294967295 = h.taken (rw (whole_word (header.taken s.pipe)) (omega arith)) (rw (whole_word (header.taken s.pipe)) (omega arith)) in omega arith
 task_word program pick stamp b ending e (ReadWritten s taken) word accepted fits h =
     let most : length program.pipes ≤ 8 = accepted.counts.pipes in
     let known : s.pipe < length program.pipes = fits.0.1 in
-    let at : 8 * ((10 + s.pipe) / 8) + (10 + s.pipe) % 8 - 10 ≡ s.pipe = omega arith in
+    let at : 8 * (header.written s.pipe / 8) + header.written s.pipe % 8 - header.written 0 ≡ s.pipe = omega arith in
     subst (λ q. (taken ≤ word) × (word ≤ taken + (pipe_def program q).places)) at
-    (h.written (rw (header (10 + s.pipe)) (omega arith)) (rw (header (10 + s.pipe)) (omega arith)) taken refl)
+    (h.written (rw (whole_word (header.written s.pipe)) (omega arith)) (rw (whole_word (header.written s.pipe)) (omega arith)) taken refl)
 task_word program pick stamp b ending e ReadTotal word accepted fits h =
-    let low : 6 ≤ total_word ending = total_low ending in
-    let high : total_word ending ≤ 8 = total_high ending in
-    let small : word < 4294967295 = h.totals (rw (header (total_word ending)) low) (rw (header (total_word ending)) high) in omega arith
+    let low : header.served ≤ total_word ending = total_low ending in
+    let high : total_word ending ≤ header.expired = total_high ending in
+    let small : word < 4294967295 = h.totals (rw (whole_word (total_word ending)) low) (rw (whole_word (total_word ending)) high) in omega arith
 task_word program pick stamp b ending e _ word accepted fits h = tt
 
 -- the range of a phase reads the pick and the execution alone

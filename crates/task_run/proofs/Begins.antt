@@ -12,7 +12,7 @@ use Rattle.never_cut.specs.Picked.{IsPicked}
 use Rattle.never_cut.specs.Steps.{Background}
 use Rattle.task_run.specs.declared.phase.Phase.TheVariants.{WriteFirst, Resume}
 use Rattle.task_run.specs.Machine.{begin, first_phase, execution_of, running_task}
-use Rattle.task_run.specs.Serving.{Begins as Starts}
+use Rattle.task_run.specs.kept.Serving.{Begins as Starts}
 use Rattle.task_run.specs.Knows.{Knows, KnowsAt, EveryPickBegins}
 use Rattle.task_run.proofs.Accesses.{Holding, unwritten, serving_at}
 use Rattle.task_run.proofs.Traps.{unsent, chain_words}

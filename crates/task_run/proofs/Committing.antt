@@ -8,6 +8,7 @@ use Rattle.ink_base.specs.declared.event.Origin.{Origin}
 use Rattle.ink_base.specs.declared.event.Origin.TheVariants as origins
 use Rattle.ink_base.specs.declared.entry.Entry.TheVariants as entries
 use Rattle.fram_words.specs.Places.{Commit, Tail, Memory, store}
+use Rattle.fram_words.specs.Held.{origin_word}
 use Rattle.thread_state.specs.Pages.{committed, working_mask, Buffer}
 use Rattle.thread_state.proofs.Pages.{commit_committed, commit_other}
 use Rattle.task_isa.specs.declared.program.Program.{Program}
@@ -21,7 +22,7 @@ use Rattle.never_cut.specs.declared.thread_model.ThreadModel.{ThreadModel}
 use Rattle.never_cut.specs.State.{thread_of, queue_of, is_running}
 use Rattle.never_cut.specs.Entries.{Readings, Legal, ArePassed, IsCalm}
 use Rattle.never_cut.specs.Commit.{is_of_queue}
-use Rattle.never_cut.specs.Stands.{Saved, saved, thread_words, origin_word, log_of, AreLogged, StandsThread, StandsPrivate, slots_of}
+use Rattle.never_cut.specs.Stands.{Saved, saved, thread_words, log_of, AreLogged, StandsThread, StandsPrivate, slots_of}
 use Rattle.push_core.specs.Queue.{StandsQueue, published}
 use Rattle.never_cut.specs.Sound.{IsSound}
 use Rattle.never_cut.specs.Actors.{StandsForKernel}
@@ -32,7 +33,7 @@ use Rattle.task_run.specs.declared.ending.Ending.TheVariants as endings
 use Rattle.task_run.specs.declared.execution.Execution.{Execution}
 use Rattle.task_run.specs.declared.phase.Phase.TheVariants.{StoreCommit}
 use Rattle.task_run.specs.Machine.{after_commit, release_phase, at_phase}
-use Rattle.task_run.specs.Serving.{assignment, whole, result, served, rings_of, AreSent, Serving}
+use Rattle.task_run.specs.kept.Serving.{assignment, whole, result, served, rings_of, AreSent, Serving}
 use Rattle.task_run.specs.Knows.{Releasing, Knows}
 use Rattle.task_run.proofs.Words.{words-of_stamp}
 use Rattle.task_run.proofs.Accesses.{machine_at, picked_time}

@@ -1,6 +1,8 @@
 -- The accesses that consume the event of a pipe or a timer.
 use Rattle.std.proofs.Common.{◌≡◌, ℕ, ◌+◌, ◌*◌, ◌<◌, arith, refl, ap, ◌∙◌, sym, subst}
 use Rattle.fram_words.specs.Places.{Memory, store}
+use Rattle.fram_words.specs.Header as header
+use Rattle.fram_words.specs.Held.{origin_word}
 use Rattle.thread_state.specs.Pages.{place_in, working, working_mask, Buffer}
 use Rattle.ink_base.specs.declared.event.Origin.{Origin}
 use Rattle.ink_base.specs.declared.event.Origin.TheVariants as origins
@@ -11,7 +13,7 @@ use Rattle.ink_layout.specs.declared.pick.Pick.{Pick}
 use Rattle.never_cut.specs.declared.model.Model.{Model}
 use Rattle.never_cut.specs.Entries.{Readings}
 use Rattle.never_cut.specs.Sound.{IsSound}
-use Rattle.never_cut.specs.Stands.{Saved, saved, origin_word}
+use Rattle.never_cut.specs.Stands.{Saved, saved}
 use Rattle.never_cut.proofs.Beginnings.{Begins}
 use Rattle.never_cut.proofs.PickedEvents.{picked_begins}
 use Rattle.task_run.specs.declared.ending.Ending.{Ending}
@@ -19,7 +21,7 @@ use Rattle.task_run.specs.declared.execution.Execution.{Execution}
 use Rattle.task_run.specs.declared.phase.Phase.TheVariants.{WriteTaken, ReadPeriod, WriteDue}
 use Rattle.task_run.specs.declared.machine.TaskMachine.{TaskMachine}
 use Rattle.task_run.specs.Machine.{after_event}
-use Rattle.task_run.specs.Serving.{changed, with_due, Serving}
+use Rattle.task_run.specs.kept.Serving.{changed, with_due, Serving}
 use Rattle.task_run.proofs.Accesses.{machine_at, Steps, Holding, put_step, holding_load, holding_put, serving_at}
 use Rattle.task_run.proofs.Words.{words-taken, words-due, words-of_period}
 use Rattle.task_run.proofs.Traps.{begun-idle}
@@ -47,10 +49,10 @@ module _ (program : Program) (readings : Readings) (m : Model) (words : Memory) 
       let small : pipe.0 < 8 = let known = first.0 in let few = accepted.counts.pipes in omega arith in
       let loaded : q.taken ≡ item = h.picked.loaded p.idle in
       let y : Saved = record (h.y) { taken = changed h.y.taken pipe.0 (q.taken + 1) } in
-      let n : Memory = store words (place_in q.thread.0 (working_mask b) (18 + pipe.0)) (q.taken + 1) in
-      put_step program m words r (18 + pipe.0) (q.taken + 1) (after_event program r ending) h (λ c. refl) λ dirty fresh.
+      let n : Memory = store words (place_in q.thread.0 (working_mask b) (header.taken pipe.0)) (q.taken + 1) in
+      put_step program m words r (header.taken pipe.0) (q.taken + 1) (after_event program r ending) h (λ c. refl) λ dirty fresh.
       let held : Holding program n m r y h.sends h.s h.o h.v =
-      holding_put program m words r (18 + pipe.0) (q.taken + 1) y h.sends h.s h.o h.v h dirty fresh (λ k. words-taken h.y h.s h.o h.v pipe.0 (q.taken + 1) k small) h.logged h.sent h.size
+      holding_put program m words r (header.taken pipe.0) (q.taken + 1) y h.sends h.s h.o h.v h dirty fresh (λ k. words-taken h.y h.s h.o h.v pipe.0 (q.taken + 1) k small) h.logged h.sent h.size
       in event_serving program readings m q stamp b e accepted sound n WriteTaken y h.sends h.s ending p.before
       (subst (λ v. Holding program n m r y h.sends h.s (origin_word q.event.origin) v) h.progress.2 (subst (λ o. Holding program n m r y h.sends h.s o h.v) h.progress.1 held))
       p.idle p.early p.unsent
@@ -72,9 +74,9 @@ module _ (program : Program) (readings : Readings) (m : Model) (words : Memory) 
       let p = h.progress.0 in
       let first : Begins program m q.thread.0 h.picked.scan.time q.event = picked_begins program readings words m q sound h.picked p.idle in
       let small : timer.0 < 8 = let known = first.0 in let few = accepted.counts.timers in omega arith in
-      let word : ℕ = working words q.thread.0 b (27 + 2 * timer.0) in
+      let word : ℕ = working words q.thread.0 b (header.period timer.0) in
       let is : word ≡ (saved program m q.thread.0).period timer.0 =
-      h.buffered.words (27 + 2 * timer.0) ∙ (words-of_period h.y h.s h.o h.v timer.0 small ∙ ap (λ (z : Saved). z.period timer.0) p.is)
+      h.buffered.words (header.period timer.0) ∙ (words-of_period h.y h.s h.o h.v timer.0 small ∙ ap (λ (z : Saved). z.period timer.0) p.is)
       in serving_at program m words r e (WriteDue (after_service q.due_word word)) h.y h.sends h.s h.o h.v (holding_load program m words r h h.ready)
       (record { idle = p.idle; early = p.early; is = p.is; unsent = p.unsent; before = p.before }, h.progress.1, h.progress.2, tt, ap (λ k. after_service q.due_word k) is)
 
@@ -93,11 +95,11 @@ module _ (program : Program) (readings : Readings) (m : Model) (words : Memory) 
       let first : Begins program m q.thread.0 h.picked.scan.time q.event = picked_begins program readings words m q sound h.picked p.idle in
       let small : timer.0 < 8 = let known = first.0 in let few = accepted.counts.timers in omega arith in
       let loaded : q.due_word ≡ deadline + 1 = h.picked.loaded p.idle in
-      let n : Memory = store words (place_in q.thread.0 (working_mask b) (26 + 2 * timer.0)) w in
+      let n : Memory = store words (place_in q.thread.0 (working_mask b) (header.due timer.0)) w in
       let y : Saved = with_due h.y timer.0 w in
-      put_step program m words r (26 + 2 * timer.0) w (after_event program r ending) h (λ c. refl) λ dirty fresh.
+      put_step program m words r (header.due timer.0) w (after_event program r ending) h (λ c. refl) λ dirty fresh.
       let held : Holding program n m r y h.sends h.s h.o h.v =
-      holding_put program m words r (26 + 2 * timer.0) w y h.sends h.s h.o h.v h dirty fresh (λ k. words-due h.y h.s h.o h.v timer.0 w k small) h.logged h.sent h.size
+      holding_put program m words r (header.due timer.0) w y h.sends h.s h.o h.v h dirty fresh (λ k. words-due h.y h.s h.o h.v timer.0 w k small) h.logged h.sent h.size
       in event_serving program readings m q stamp b e accepted sound n (WriteDue w) y h.sends h.s ending p.before
       (subst (λ v. Holding program n m r y h.sends h.s (origin_word q.event.origin) v) h.progress.2 (subst (λ o. Holding program n m r y h.sends h.s o h.v) h.progress.1 held))
       p.idle p.early p.unsent

@@ -19,7 +19,7 @@ use Rattle.never_cut.specs.Commit.{stamped, outputs_of, with_end, expired_after,
 use Rattle.never_cut.specs.Stands.{Saved, flag}
 use Rattle.task_run.specs.declared.ending.Ending.{Ending}
 use Rattle.task_run.specs.declared.ending.Ending.TheVariants as endings
-use Rattle.task_run.specs.Serving.{rested, finished_by, counted, concluded, IsEndOf}
+use Rattle.task_run.specs.kept.Serving.{rested, finished_by, counted, concluded, IsEndOf}
 
 -- the outputs of a commit are those of its thread
 stamped-own : (stamp t : ℕ) (outs : List ℕ) → filter (λ (o : Output). o.thread.0 == t) (stamped stamp t outs) ≡ stamped stamp t outs

@@ -21,7 +21,7 @@ use Rattle.task_run.specs.declared.phase.Phase.TheVariants.{WriteNext, WriteFini
 use Rattle.task_run.specs.declared.machine.TaskMachine.{TaskMachine}
 use Rattle.task_run.specs.Endings.{next_by, total_word}
 use Rattle.task_run.specs.Machine.{after_next, end_phase}
-use Rattle.task_run.specs.Serving.{assignment, begun, consumed, worked, rested, finish, finished_by, with_total, counted, concluded, IsLast, Finishing, Told, told, Serving}
+use Rattle.task_run.specs.kept.Serving.{assignment, begun, consumed, worked, rested, finish, finished_by, with_total, counted, concluded, IsLast, Finishing, Told, told, Serving}
 use Rattle.task_run.proofs.Accesses.{machine_at, Steps, Holding, put_step, holding_load, holding_put, serving_at}
 use Rattle.task_run.proofs.Words.{words-stamp, words-rested, words-next, words-finish, words-total, words-of_total}
 

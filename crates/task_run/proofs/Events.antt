@@ -2,6 +2,7 @@
 use Rattle.std.proofs.Common.{◌≡◌, ℕ, false, List, [], refl, ap, ◌∙◌, sym, subst}
 use Rattle.std.specs.Prelude.{None}
 use Rattle.fram_words.specs.Places.{Memory, store}
+use Rattle.fram_words.specs.Held.{origin_word}
 use Rattle.thread_state.specs.Pages.{place_in, working_mask, Buffer}
 use Rattle.ink_base.specs.declared.event.Origin.{Origin}
 use Rattle.ink_base.specs.declared.event.Origin.TheVariants as origins
@@ -13,7 +14,7 @@ use Rattle.ink_layout.specs.declared.pick.Pick.{Pick}
 use Rattle.never_cut.specs.declared.model.Model.{Model}
 use Rattle.never_cut.specs.Entries.{Readings}
 use Rattle.never_cut.specs.Sound.{IsSound}
-use Rattle.never_cut.specs.Stands.{Saved, saved, origin_word}
+use Rattle.never_cut.specs.Stands.{Saved, saved}
 use Rattle.task_run.specs.declared.ending.Ending.{Ending}
 use Rattle.task_run.specs.declared.ending.Ending.TheVariants as endings
 use Rattle.task_run.specs.declared.execution.Execution.{Execution}
@@ -21,7 +22,7 @@ use Rattle.task_run.specs.declared.phase.Phase.{Phase}
 use Rattle.task_run.specs.declared.phase.Phase.TheVariants.{WriteFirst, WriteOrigin, WriteValue, WriteTaken, ReadPeriod, Fetch, WriteNext}
 use Rattle.task_run.specs.declared.machine.TaskMachine.{TaskMachine}
 use Rattle.task_run.specs.Machine.{after_event, after_value, execution_of}
-use Rattle.task_run.specs.Serving.{assignment, begun, consumed, Before, Begins as Starts, Again, Beginning, IsOfPipe, IsOfTimer, told, Serving}
+use Rattle.task_run.specs.kept.Serving.{assignment, begun, consumed, Before, Begins as Starts, Again, Beginning, IsOfPipe, IsOfTimer, told, Serving}
 use Rattle.task_run.proofs.Accesses.{machine_at, Steps, Holding, put_step, holding_put, serving_at}
 use Rattle.task_run.proofs.Words.{words-first, words-origin, words-value}
 use Rattle.task_run.proofs.Traps.{begun-idle}

@@ -27,8 +27,7 @@ use Rattle.task_run.specs.declared.execution.Execution.{Execution}
 use Rattle.task_run.specs.declared.phase.Phase.TheVariants.{Fetch, ReadState, WriteState, ReadCount, LoadReader, WriteArmed, WriteStopped, WriteNext}
 use Rattle.task_run.specs.declared.machine.TaskMachine.{TaskMachine}
 use Rattle.task_run.specs.Machine.{trap, proceed, stepped, cpu_of, after_act, after_fetch, instr_of}
-use Rattle.task_run.specs.Serving.{Assignment, assignment, config_of, Told, told, RunningIn, Serving}
-use Rattle.task_run.specs.Knows.{HasCode}
+use Rattle.task_run.specs.kept.Serving.{Assignment, assignment, config_of, Told, told, RunningIn, Serving}
 use Rattle.task_run.proofs.Accesses.{machine_at, Steps, Holding, holding_load, serving_at}
 use Rattle.task_run.proofs.Traps.{trap_serving, proceed_serving}
 use Rattle.task_run.proofs.Acts.{Lands, task_lands, IsOwnTask, own_task}
@@ -101,27 +100,27 @@ module _ (program : Program) (m : Model) (words : Memory) (r : TaskMachine) (y :
   begin_serving (Traps code) is lands = traps_serving (Traps code) is code refl
 
   -- the word that is fetched is the next instruction's
-  fetched : HasCode program → IsOwnTask program r.pick.thread.0 (assignment program m r.pick).task →
+  fetched : IsAccepted program → IsOwnTask program r.pick.thread.0 (assignment program m r.pick).task →
       decoded (words (Code r.execution.task.0 r.execution.at)) ≡ Some (instr_at (assignment program m r.pick).code r.execution.at)
-  fetched code known =
+  fetched accepted known =
       let a : Assignment = assignment program m r.pick in
       let word : words (Code r.execution.task.0 r.execution.at) ≡ word_of_instr (instr_at a.code r.execution.at) =
       ap (λ k. words (Code k r.execution.at)) g.task ∙ stands.code a.task r.execution.at known.known g.inside
-      in ap (λ w. decoded w) word ∙ code a.task r.execution.at known.known g.inside
+      in ap (λ w. decoded w) word ∙ (accepted.tasks a.task known.known).read_back r.execution.at g.inside
 
-  pub fetch_serving : HasCode program → IsAccepted program → (readings : Readings) → IsSound program readings m →
+  pub fetch_serving : IsAccepted program → (readings : Readings) → IsSound program readings m →
       Serving program words m (after_fetch program r (instr_of (decoded (words (Code r.execution.task.0 r.execution.at)))))
-  fetch_serving code accepted readings sound =
+  fetch_serving accepted readings sound =
       let a : Assignment = assignment program m r.pick in
       let known : IsOwnTask program r.pick.thread.0 a.task = own_task program readings m r.pick.thread.0 accepted sound h.picked.known in
-      subst (λ found. Serving program words m (after_fetch program r (instr_of found))) (sym (fetched code known))
+      subst (λ found. Serving program words m (after_fetch program r (instr_of found))) (sym (fetched accepted known))
       (begin_serving (act_of (instr_at a.code r.execution.at) a.given (cpu_of r.execution)) refl
       (subst (λ t. Lands program t (length a.code) r.execution.at (act_of (instr_at a.code r.execution.at) a.given (cpu_of r.execution))) known.own
       (task_lands program a.task r.execution.at a.given (cpu_of r.execution) accepted known.known refl g.inside)))
 
 pub step-fetch : (program : Program) (m : Model) (words : Memory) (pick : Pick) (stamp : ℕ) (b : Buffer) (ending : Ending) (e : Execution) (readings : Readings) →
-    HasCode program → IsAccepted program → StandsPrivate words program m → IsSound program readings m →
+    IsAccepted program → StandsPrivate words program m → IsSound program readings m →
     Serving program words m (machine_at pick stamp b ending e Fetch) → Steps program m words (machine_at pick stamp b ending e Fetch)
-step-fetch program m words pick stamp b ending e readings code accepted stands sound h =
+step-fetch program m words pick stamp b ending e readings accepted stands sound h =
     let r : TaskMachine = machine_at pick stamp b ending e Fetch in
-    fetch_serving program m words r h.y h.sends h.s h.o h.v stands sound.shape (holding_load program m words r h h.ready) h.progress code accepted readings sound
+    fetch_serving program m words r h.y h.sends h.s h.o h.v stands sound.shape (holding_load program m words r h h.ready) h.progress accepted readings sound

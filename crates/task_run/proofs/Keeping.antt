@@ -24,7 +24,7 @@ use Rattle.task_run.specs.declared.phase.Phase.{Phase}
 use Rattle.task_run.specs.declared.phase.Phase.TheVariants.{StoreCommit, StoreAck, StoreEmpty, Over}
 use Rattle.task_run.specs.declared.machine.TaskMachine.{TaskMachine}
 use Rattle.task_run.specs.Machine.{want, take, after_commit, at_phase}
-use Rattle.task_run.specs.Serving.{Serving}
+use Rattle.task_run.specs.kept.Serving.{Serving}
 use Rattle.task_run.specs.Knows.{Releasing, Knows, KnowsAt, SameCommitted, KeepsAll}
 use Rattle.task_run.proofs.Accesses.{machine_at, Steps}
 use Rattle.task_run.proofs.Kept.{kernel_frame, put_step_private, put_step_kernel, put_step_committed}

@@ -3,6 +3,7 @@ use Rattle.std.proofs.Common.{◌≡◌, ℕ, ◌+◌, ◌*◌, ◌/◌, ◌^◌
 use Rattle.std.specs.Prelude.{if◌then◌else◌}
 use Rattle.std.proofs.lemmas.Bool.{false≢true, cases_Bool}
 use Rattle.fram_words.specs.Places.{Place, Code, Log, Memory, Load, Store}
+use Rattle.fram_words.specs.Held.{origin_word}
 use Rattle.event_pipe.specs.Ring.{ring_index}
 use Rattle.thread_state.specs.Pages.{Buffer, IsUnderWay, put_access}
 use Rattle.task_isa.specs.declared.program.Program.{Program}
@@ -11,7 +12,7 @@ use Rattle.prog_check.specs.Lookup.{pipe_def}
 use Rattle.ink_layout.specs.declared.pick.Pick.{Pick}
 use Rattle.never_cut.specs.declared.model.Model.{Model}
 use Rattle.never_cut.specs.Entries.{Readings}
-use Rattle.never_cut.specs.Stands.{Saved, saved, origin_word}
+use Rattle.never_cut.specs.Stands.{Saved, saved}
 use Rattle.never_cut.specs.Steps.{Background}
 use Rattle.persist_timer.specs.Due.{armed}
 use Rattle.task_run.specs.declared.ending.Ending.{Ending}
@@ -23,8 +24,8 @@ use Rattle.task_run.specs.declared.machine.TaskMachine.{TaskMachine}
 use Rattle.task_run.specs.Endings.{next_by, total_word}
 use Rattle.task_run.specs.Machine as machine
 use Rattle.task_run.specs.Machine.{want, is_over, device}
-use Rattle.task_run.specs.Serving.{told, IsReady, Serving}
-use Rattle.task_run.specs.Knows.{KnowsAt, KeepsAll, HasCode, EveryTaskCommits}
+use Rattle.task_run.specs.kept.Serving.{told, IsReady, Serving}
+use Rattle.task_run.specs.Knows.{KnowsAt, KeepsAll, EveryTaskCommits}
 use Rattle.task_run.proofs.Accesses.{machine_at}
 use Rattle.task_run.proofs.Kept.{log_step_private, log_step_kernel, ring_step_private, ring_step_kernel}
 use Rattle.task_run.proofs.Events.{step-first, step-origin, step-value}
@@ -39,7 +40,7 @@ use Rattle.task_run.proofs.Ends.{step-next, step-finished, step-read_total, step
 use Rattle.task_run.proofs.Keeping.{IsCalmly, put_calmly, before_keeps, commit_keeps, ack_keeps, release_keeps}
 
 module _ (program : Program) (readings : Readings) (words : Memory) (m : Model) (pick : Pick) (stamp : ℕ) (b : Buffer) (ending : Ending) (e : Execution)
-    (code : HasCode program) (g : Background program readings words m) where
+    (g : Background program readings words m) where
   -- an access of a write
   writes : (phase : Phase) (u v : ℕ) → Serving program words m (machine_at pick stamp b ending e phase) → IsUnderWay words pick.thread.0 b (u / 8) →
       IsCalmly program words m (put_access pick.thread.0 b u v)
@@ -119,9 +120,9 @@ module _ (program : Program) (readings : Readings) (words : Memory) (m : Model) 
       before_keeps program readings words m pick stamp b ending e (WriteDue w) tt (writes (WriteDue w) (26 + 2 * device r) w h h.ready)
       (step-due program readings m words pick stamp b ending e g.accepted g.sound w h)
   keeps Resume h more =
-      before_keeps program readings words m pick stamp b ending e Resume tt (resume_calmly h) (step-resume program readings m words pick stamp b ending e code g.accepted g.private g.sound h)
+      before_keeps program readings words m pick stamp b ending e Resume tt (resume_calmly h) (step-resume program readings m words pick stamp b ending e g.accepted g.private g.sound h)
   keeps Fetch h more =
-      before_keeps program readings words m pick stamp b ending e Fetch tt (loads _) (step-fetch program m words pick stamp b ending e readings code g.accepted g.private g.sound h)
+      before_keeps program readings words m pick stamp b ending e Fetch tt (loads _) (step-fetch program m words pick stamp b ending e readings g.accepted g.private g.sound h)
   keeps (ReadState c n) h more =
       before_keeps program readings words m pick stamp b ending e (ReadState c n) tt (loads _) (step-read_state program m words pick stamp b ending e c n g.private g.sound.shape h)
   keeps (WriteState n v) h more =
@@ -174,5 +175,5 @@ module _ (program : Program) (readings : Readings) (words : Memory) (m : Model) 
   keeps Over h more = absurd (false≢true (sym more))
 
 pub every_task_commits : EveryTaskCommits
-every_task_commits program readings words m r code g knows more =
-    keeps program readings words m r.pick r.stamp r.buffer r.ending r.execution code g r.phase knows more
+every_task_commits program readings words m r g knows more =
+    keeps program readings words m r.pick r.stamp r.buffer r.ending r.execution g r.phase knows more

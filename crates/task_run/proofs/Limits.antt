@@ -29,8 +29,9 @@ use Rattle.never_cut.specs.Stands.{Saved, period_word}
 use Rattle.never_cut.proofs.PickedEvents.{IsServable}
 use Rattle.task_run.specs.declared.ending.Ending.{Ending}
 use Rattle.task_run.specs.declared.ending.Ending.TheVariants as endings
-use Rattle.task_run.specs.Fits.{FitsOrigin, FitsChain}
-use Rattle.task_run.specs.Serving.{Assignment, IsOfPipe, IsOfTimer, begun, rested, finished_by, total_of, worked}
+use Rattle.fram_words.specs.Held.{FitsOrigin}
+use Rattle.task_run.specs.Fits.{FitsChain}
+use Rattle.task_run.specs.kept.Serving.{Assignment, IsOfPipe, IsOfTimer, begun, rested, finished_by, total_of, worked}
 use Rattle.task_run.proofs.Traps.{Keeps, begun-keeps}
 
 -- a task has at most as many instructions as all tasks

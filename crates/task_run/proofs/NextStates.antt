@@ -19,7 +19,7 @@ use Rattle.never_cut.specs.Stands.{Saved, saved}
 use Rattle.never_cut.specs.Sound.{HasShape}
 use Rattle.task_run.specs.declared.ending.Ending.{Ending}
 use Rattle.task_run.specs.declared.ending.Ending.TheVariants as endings
-use Rattle.task_run.specs.Serving.{Assignment, assignment, whole, consumed, begun, with_effects, written_with, due_with, result, concluded, served, IsEnd, IsEndOf}
+use Rattle.task_run.specs.kept.Serving.{Assignment, assignment, whole, consumed, begun, with_effects, written_with, due_with, result, concluded, served, IsEnd, IsEndOf}
 use Rattle.task_run.proofs.PipeWords.{written_in, taken_in, IsFirstItem, sends-written, sends-written_other, sends-taken, take-written, take-taken, take-taken_other}
 use Rattle.task_run.proofs.TimerWords.{due_in, period_in, IsOwnTimer, settings-due, settings-period, settings-due_other, settings-period_other, move-due, move-period, move-due_other}
 use Rattle.task_run.proofs.Owned.{AreOwn}

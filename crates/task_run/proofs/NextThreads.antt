@@ -9,7 +9,7 @@ use Rattle.never_cut.specs.State.{is_running}
 use Rattle.never_cut.specs.Commit.{is_of_queue, thread_after}
 use Rattle.task_run.specs.declared.ending.Ending.{Ending}
 use Rattle.task_run.specs.declared.ending.Ending.TheVariants as endings
-use Rattle.task_run.specs.Serving.{IsEndOf}
+use Rattle.task_run.specs.kept.Serving.{IsEndOf}
 use Rattle.task_run.proofs.Commits.{thread_by}
 
 -- a queue event is finished unless its chain goes on

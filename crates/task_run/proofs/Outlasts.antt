@@ -22,7 +22,7 @@ use Rattle.task_run.specs.declared.phase.Phase.{Phase}
 use Rattle.task_run.specs.declared.phase.Phase.TheVariants.{StoreAck, StoreEmpty, Over}
 use Rattle.task_run.specs.declared.machine.TaskMachine.{TaskMachine}
 use Rattle.task_run.specs.Machine.{Action, Put, Get, Make, action}
-use Rattle.task_run.specs.Serving.{Assignment, assignment, rings_of, AreSent, Told, told, Progress, IsReady, Serving}
+use Rattle.task_run.specs.kept.Serving.{Assignment, assignment, rings_of, AreSent, Told, told, Progress, IsReady, Serving}
 use Rattle.task_run.specs.Knows.{Releasing, KnowsAt, EveryTaskOutlasts}
 use Rattle.task_run.proofs.Accesses.{progress_frame, sent_frame}
 

@@ -21,7 +21,7 @@ use Rattle.never_cut.specs.declared.model.Model.{Model}
 use Rattle.never_cut.specs.Entries.{Readings}
 use Rattle.never_cut.specs.Sound.{IsSound}
 use Rattle.never_cut.specs.Stands.{Saved, saved}
-use Rattle.task_run.specs.Serving.{Assignment, assignment, whole, end_of, effects_of, result}
+use Rattle.task_run.specs.kept.Serving.{Assignment, assignment, whole, end_of, effects_of, result}
 use Rattle.task_run.proofs.Acts.{IsOwnTask, own_task}
 use Rattle.task_run.proofs.PipeWords.{IsOwnPipe, AreOwnSends}
 use Rattle.task_run.proofs.TimerWords.{IsOwnTimer, AreOwnSettings}

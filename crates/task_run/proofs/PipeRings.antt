@@ -14,7 +14,7 @@ use Rattle.never_cut.specs.declared.pipe_model.PipeModel.{PipeModel}
 use Rattle.never_cut.specs.State.{no_pipe}
 use Rattle.never_cut.specs.Commit.{taken_from, with_item, with_sends}
 use Rattle.never_cut.specs.Sound.{HasShape}
-use Rattle.task_run.specs.Serving.{AreSent}
+use Rattle.task_run.specs.kept.Serving.{AreSent}
 use Rattle.task_run.proofs.SentItems.{pipe_in, item_same, item_other}
 use Rattle.task_run.proofs.PipeWords.{sent-count}
 use Rattle.task_run.proofs.Commits.{pipes_begun}

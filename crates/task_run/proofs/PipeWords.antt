@@ -12,7 +12,7 @@ use Rattle.prog_check.specs.Lookup.{pipe_def}
 use Rattle.never_cut.specs.declared.pipe_model.PipeModel.{PipeModel}
 use Rattle.never_cut.specs.State.{no_pipe}
 use Rattle.never_cut.specs.Commit.{taken_from, with_item, with_sends}
-use Rattle.task_run.specs.Serving.{changed, written_with}
+use Rattle.task_run.specs.kept.Serving.{changed, written_with}
 use Rattle.task_run.proofs.SentItems.{pipe_in, changed_same, changed_other, item_same, item_other}
 
 -- thread t is the pipe's writer, or its reader

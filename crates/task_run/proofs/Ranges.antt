@@ -4,6 +4,7 @@ use Rattle.std.specs.Prelude.{Some}
 use Rattle.std.proofs.lemmas.Bool.{false≢true}
 use Rattle.ink_base.specs.declared.ids.TaskId.{TaskId}
 use Rattle.fram_words.specs.Places.{Memory, answer}
+use Rattle.fram_words.specs.Header as header
 use Rattle.thread_state.specs.Pages.{Buffer, working}
 use Rattle.task_isa.specs.declared.program.Program.{Program}
 use Rattle.task_isa.specs.declared.sent.Sent.{Sent}
@@ -28,7 +29,7 @@ use Rattle.task_run.specs.declared.phase.Phase.TheVariants.{WriteFirst, WriteOri
 use Rattle.task_run.specs.Endings.{total_word}
 use Rattle.task_run.specs.Machine.{want, is_over, execution_of}
 use Rattle.task_run.specs.Fits.{FitsExecution, FitsPhase, FitsWord, FitsTask}
-use Rattle.task_run.specs.Serving.{assignment, total_of, told, RunningIn, SendingTo, Serving}
+use Rattle.task_run.specs.kept.Serving.{assignment, total_of, told, RunningIn, SendingTo, Serving}
 use Rattle.task_run.specs.Knows.{Releasing, KnowsAt, EveryTaskFits}
 use Rattle.task_run.proofs.Words.{words-of_total, words-of_written, words-of_period}
 use Rattle.task_run.proofs.Accesses.{machine_at, picked_time}
@@ -164,8 +165,8 @@ module _ (program : Program) (readings : Readings) (words : Memory) (m : Model) 
   period_small h =
       let j : ℕ = number_of pick.event.origin in
       let known : j < 8 = timer_known program pick.thread.0 pick.event.origin pick.event.value g.accepted.counts.timers h.progress.3 (servable h.picked) in
-      let word : working words pick.thread.0 b (27 + 2 * j) ≡ (saved program m pick.thread.0).period j =
-      h.buffered.words (27 + 2 * j) ∙ (words-of_period h.y h.s h.o h.v j known ∙ ap (λ (z : Saved). z.period j) h.progress.0.is)
+      let word : working words pick.thread.0 b (header.period j) ≡ (saved program m pick.thread.0).period j =
+      h.buffered.words (header.period j) ∙ (words-of_period h.y h.s h.o h.v j known ∙ ap (λ (z : Saved). z.period j) h.progress.0.is)
       in
       rw word (period_fits program readings m pick.thread.0 pick.event.origin pick.event.value g.sound h.progress.3 (servable h.picked))
 
@@ -186,7 +187,7 @@ module _ (program : Program) (readings : Readings) (words : Memory) (m : Model) 
 
   -- no more items wait and were sent than there are places
   written_within : (s : Sending) (taken : ℕ) → Serving program words m (machine_at pick stamp b ending e (ReadWritten s taken)) →
-      let word = working words pick.thread.0 b (10 + s.pipe) in (taken ≤ word) × (word ≤ taken + (pipe_def program s.pipe).places)
+      let word = working words pick.thread.0 b (header.written s.pipe) in (taken ≤ word) × (word ≤ taken + (pipe_def program s.pipe).places)
   written_within s taken h =
       let q : ℕ = s.pipe in
       let to = h.progress.0 in
@@ -194,7 +195,7 @@ module _ (program : Program) (readings : Readings) (words : Memory) (m : Model) 
       let sent = has_sent program m (machine_at pick stamp b ending e (ReadWritten s taken)) h.y h.sends h.s h.o h.v q g.sound.shape run to.pipe to.writer in
       let pipes : length program.pipes ≤ 8 = g.accepted.counts.pipes in
       let known : q < length program.pipes = to.pipe in
-      let word : working words pick.thread.0 b (10 + q) ≡ h.y.written q = h.buffered.words (10 + q) ∙ words-of_written h.y h.s h.o h.v q (omega arith) in
+      let word : working words pick.thread.0 b (header.written q) ≡ h.y.written q = h.buffered.words (header.written q) ∙ words-of_written h.y h.s h.o h.v q (omega arith) in
       let written : h.y.written q ≡ (pipe_of m q).taken + length (pipe_of m q).items + sent_to q run.effects.sends = sent.written in
       let room : sent_to q run.effects.sends ≤ get_or (rooms program m) q 0 = run.few q in
       let at : get_or (rooms program m) q 0 ≡ (pipe_def program q).places - length (pipe_of m q).items = room_at program m q known in

@@ -25,8 +25,7 @@ use Rattle.task_run.specs.declared.execution.Execution.{Execution}
 use Rattle.task_run.specs.declared.phase.Phase.TheVariants.{Resume, WriteNext}
 use Rattle.task_run.specs.declared.machine.TaskMachine.{TaskMachine}
 use Rattle.task_run.specs.Machine as machine
-use Rattle.task_run.specs.Serving.{Assignment, assignment, rested, Finishing, worked_in, IsEnd, IsReady, told, RunningIn, Serving}
-use Rattle.task_run.specs.Knows.{HasCode}
+use Rattle.task_run.specs.kept.Serving.{Assignment, assignment, rested, Finishing, worked_in, IsEnd, IsReady, told, RunningIn, Serving}
 use Rattle.task_run.proofs.Accesses.{machine_at, Steps, put_step, holding_load, holding_put}
 use Rattle.task_run.proofs.Instrs.{fetch_serving}
 use Rattle.task_run.proofs.Words.{words-rested}
@@ -68,7 +67,7 @@ end-late : (x : Saved) (a : Assignment) → a.late ≡ true → IsEnd a x ending
 end-late x a late = rw late refl
 
 module _ (program : Program) (readings : Readings) (m : Model) (words : Memory) (pick : Pick) (stamp : ℕ) (b : Buffer) (ending : Ending) (e : Execution)
-    (code : HasCode program) (accepted : IsAccepted program) (stands : StandsPrivate words program m) (sound : IsSound program readings m)
+    (accepted : IsAccepted program) (stands : StandsPrivate words program m) (sound : IsSound program readings m)
     (h : Serving program words m (machine_at pick stamp b ending e Resume)) where
   abbrev x : Saved
   x = saved program m pick.thread.0
@@ -124,7 +123,7 @@ module _ (program : Program) (readings : Readings) (m : Model) (words : Memory) 
       let word : ℕ = words (Code e.task.0 e.at) in
       rw is
       (subst (λ c. Serving program words m (machine.after_resume program r c word)) (sym is)
-      (fetch_serving program m words r h.y h.sends h.s h.o h.v stands sound.shape (holding_load program m words r h fresh) (goes_on is) code accepted readings sound))
+      (fetch_serving program m words r h.y h.sends h.s h.o h.v stands sound.shape (holding_load program m words r h fresh) (goes_on is) accepted readings sound))
 
   pub step-resume : Steps program m words r
   step-resume = elim (cases_Bool late) [ inl is ↦ resume_late is | inr is ↦ resume_early is ]

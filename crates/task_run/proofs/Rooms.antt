@@ -17,7 +17,7 @@ use Rattle.never_cut.specs.Sound.{HasShape}
 use Rattle.never_cut.specs.Stands.{Saved, saved, written_word, taken_word}
 use Rattle.push_core.proofs.Rings.{apart}
 use Rattle.task_run.specs.declared.machine.TaskMachine.{TaskMachine}
-use Rattle.task_run.specs.Serving.{begun, told, RunningIn}
+use Rattle.task_run.specs.kept.Serving.{begun, told, RunningIn}
 use Rattle.task_run.proofs.Traps.{begun-keeps}
 use Rattle.task_run.proofs.SentItems.{pipe_in, one_to, HasMore, sends_more, written_more, room_at}
 

@@ -10,7 +10,7 @@ use Rattle.task_isa.specs.Meaning.{Effects, Config, Room, RunEnd, Ended, Trapped
 use Rattle.never_cut.specs.Stands.{Saved}
 use Rattle.task_run.specs.declared.ending.Ending.{Ending}
 use Rattle.task_run.specs.Machine.{cpu_of, stepped}
-use Rattle.task_run.specs.Serving.{whole, begun, with_effects, effects_of, result, config_of, Told, RunningIn, worked_in, Finishing, IsTrap, IsEndOf}
+use Rattle.task_run.specs.kept.Serving.{whole, begun, with_effects, effects_of, result, config_of, Told, RunningIn, worked_in, Finishing, IsTrap, IsEndOf}
 use Rattle.task_run.proofs.Traps.{Going, end-early}
 
 -- how a run goes on after one instruction

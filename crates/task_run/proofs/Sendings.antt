@@ -2,6 +2,7 @@
 use Rattle.std.proofs.Common.{◌≡◌, ℕ, ◌+◌, ◌-◌, ◌/◌, ◌<◌, ◌≤◌, true, [], ◌∷◌, ◌++◌, length, arith, refl, ap, ◌∙◌, sym, inl, inr, subst}
 use Rattle.std.proofs.lemmas.Bool.{cases_Bool, ltb-true}
 use Rattle.fram_words.specs.Places.{Commit, Ring, Memory, store, perform}
+use Rattle.fram_words.specs.Header as header
 use Rattle.fram_words.proofs.Frames.{store-same, store-other}
 use Rattle.event_pipe.specs.Ring.{ring_index}
 use Rattle.event_pipe.specs.Ring as by_counts
@@ -27,7 +28,7 @@ use Rattle.task_run.specs.declared.sending.Sending.{Sending}
 use Rattle.task_run.specs.declared.phase.Phase.TheVariants.{LoadReader, LoadTaken, ReadWritten, StoreItem, WriteWritten}
 use Rattle.task_run.specs.declared.machine.TaskMachine.{TaskMachine}
 use Rattle.task_run.specs.Machine.{want, after_written, proceed, cpu_of}
-use Rattle.task_run.specs.Serving.{assignment, begun, with_effects, changed, rings_of, Told, told, Serving}
+use Rattle.task_run.specs.kept.Serving.{assignment, begun, with_effects, changed, rings_of, Told, told, Serving}
 use Rattle.task_run.proofs.Accesses.{machine_at, Steps, picked_at, put_step, holding_load, holding_put, serving_at}
 use Rattle.task_run.proofs.Traps.{proceed_serving}
 use Rattle.task_run.proofs.Words.{words-written, words-of_written, words-of_taken}
@@ -37,13 +38,13 @@ use Rattle.task_run.proofs.Rooms.{taken_of, has_sent, room_is, sent_count, room_
 
 -- the count of taken items in the committed copy of the reader
 pub taken_found : (program : Program) (m : Model) (words : Memory) (q commit : ℕ) → IsAccepted program → StandsPrivate words program m → q < length program.pipes →
-    (let reader = (pipe_def program q).reader.0 in commit ≡ words (Commit reader) → words (place_in reader commit (18 + q)) ≡ (pipe_of m q).taken)
+    (let reader = (pipe_def program q).reader.0 in commit ≡ words (Commit reader) → words (place_in reader commit (header.taken q)) ≡ (pipe_of m q).taken)
 taken_found program m words q commit accepted stands known is =
     let few : length program.pipes ≤ 8 = accepted.counts.pipes in
     let reader : ℕ = (pipe_def program q).reader.0 in
     let x = stands.threads reader (accepted.pipes q known).reader in
-    ap (λ c. words (place_in reader c (18 + q))) is
-    ∙ (x.block (18 + q)
+    ap (λ c. words (place_in reader c (header.taken q))) is
+    ∙ (x.block (header.taken q)
     ∙ (words-of_taken (saved program m reader) x.stamp x.origin x.value q (omega arith) ∙ taken_of program m reader q known refl))
 
 module _ (program : Program) (m : Model) (words : Memory) (pick : Pick) (stamp : ℕ) (b : Buffer) (ending : Ending) (e : Execution) where
@@ -58,7 +59,7 @@ module _ (program : Program) (m : Model) (words : Memory) (pick : Pick) (stamp :
       let r : TaskMachine = machine_at pick stamp b ending e (LoadTaken s commit) in
       let q : ℕ = s.pipe in
       let reader : ℕ = (pipe_def program q).reader.0 in
-      serving_at program m words r e (ReadWritten s (words (place_in reader commit (18 + q)))) h.y h.sends h.s h.o h.v (holding_load program m words r h h.ready)
+      serving_at program m words r e (ReadWritten s (words (place_in reader commit (header.taken q)))) h.y h.sends h.s h.o h.v (holding_load program m words r h h.ready)
       (h.progress.0, taken_found program m words q commit accepted stands h.progress.0.pipe h.progress.1)
 
   -- so many items were written: the item is stored, or the register says that there is no room
@@ -94,8 +95,8 @@ module _ (program : Program) (m : Model) (words : Memory) (pick : Pick) (stamp :
   step-read_written s taken accepted stands shape h =
       let known : s.pipe < length program.pipes = h.progress.0.pipe in
       let few : length program.pipes ≤ 8 = accepted.counts.pipes in
-      let found : working words pick.thread.0 b (10 + s.pipe) ≡ h.y.written s.pipe =
-      h.buffered.words (10 + s.pipe) ∙ words-of_written h.y h.s h.o h.v s.pipe (omega arith)
+      let found : working words pick.thread.0 b (header.written s.pipe) ≡ h.y.written s.pipe =
+      h.buffered.words (header.written s.pipe) ∙ words-of_written h.y h.s h.o h.v s.pipe (omega arith)
       in
       subst (λ n. Serving program words m (after_written program (machine_at pick stamp b ending e (ReadWritten s taken)) s taken n)) (sym found)
       (written_serving s taken stands shape h)
@@ -148,11 +149,11 @@ module _ (program : Program) (m : Model) (words : Memory) (pick : Pick) (stamp :
       let room : has_room (assignment program m pick).room q g.effects.sends ≡ true =
       room_left program m q written (sent_to q g.effects.sends) known h.progress.0.room (h.progress.0.count ∙ sent.written)
       in
-      put_step program m words r (10 + q) (written + 1) (proceed program r next) h (λ c. refl) λ dirty fresh.
-      let n : Memory = store words (place_in pick.thread.0 (working_mask b) (10 + q)) (written + 1) in
-      let stands' : StandsPrivate n program m = rw (is_dirty-true b ((10 + q) / 8) dirty) at stands in
+      put_step program m words r (header.written q) (written + 1) (proceed program r next) h (λ c. refl) λ dirty fresh.
+      let n : Memory = store words (place_in pick.thread.0 (working_mask b) (header.written q)) (written + 1) in
+      let stands' : StandsPrivate n program m = rw (is_dirty-true b (header.written q / 8) dirty) at stands in
       proceed_serving program m n r next y (h.sends ++ item ∷ []) h.s h.o h.v stands' shape
-      (holding_put program m words r (10 + q) (written + 1) y (h.sends ++ item ∷ []) h.s h.o h.v h dirty fresh
+      (holding_put program m words r (header.written q) (written + 1) y (h.sends ++ item ∷ []) h.s h.o h.v h dirty fresh
       (λ k. words-written h.y h.s h.o h.v q (written + 1) k (omega arith)) h.logged
       (sent_append (rings_of words) program m.pipes h.sends item shape.pipes h.sent
       (ap (λ k. words (Ring q (ring_index (pipe_def program q).places k))) (sent_count program m h.y h.sends q (sent_to q g.effects.sends) sent ∙ sym h.progress.0.count) ∙ h.progress.1))

@@ -14,7 +14,7 @@ use Rattle.never_cut.specs.declared.model.Model.{Model}
 use Rattle.never_cut.specs.declared.pipe_model.PipeModel.{PipeModel}
 use Rattle.never_cut.specs.State.{pipe_of, no_pipe}
 use Rattle.never_cut.specs.Commit.{room_in, rooms, with_item, with_sends}
-use Rattle.task_run.specs.Serving.{changed, written_with, AreSent}
+use Rattle.task_run.specs.kept.Serving.{changed, written_with, AreSent}
 
 -- a pipe by its number
 abbrev pub pipe_in : List PipeModel → ℕ → PipeModel

@@ -2,6 +2,8 @@
 use Rattle.std.proofs.Common.{◌≡◌, ℕ, ◌+◌, ◌*◌, ◌/◌, ◌<◌, ◌≤◌, List, [], ◌∷◌, ◌++◌, length, arith, refl, ap, ◌∙◌, sym}
 use Rattle.std.specs.Prelude.{Some, None}
 use Rattle.fram_words.specs.Places.{Memory, store, perform}
+use Rattle.fram_words.specs.Header as header
+use Rattle.fram_words.specs.Held.{due_word}
 use Rattle.thread_state.specs.Pages.{place_in, working_mask, Buffer}
 use Rattle.thread_state.proofs.Pages.{is_dirty-true}
 use Rattle.task_isa.specs.declared.act.Act.TheVariants.{Arms, Stops}
@@ -13,13 +15,13 @@ use Rattle.prog_check.specs.Accepted.{IsAccepted}
 use Rattle.ink_layout.specs.declared.pick.Pick.{Pick}
 use Rattle.never_cut.specs.declared.model.Model.{Model}
 use Rattle.never_cut.specs.Sound.{HasShape}
-use Rattle.never_cut.specs.Stands.{Saved, StandsPrivate, due_word}
+use Rattle.never_cut.specs.Stands.{Saved, StandsPrivate}
 use Rattle.task_run.specs.declared.ending.Ending.{Ending}
 use Rattle.task_run.specs.declared.execution.Execution.{Execution}
 use Rattle.task_run.specs.declared.phase.Phase.TheVariants.{WriteArmed, WritePeriod, WriteStopped}
 use Rattle.task_run.specs.declared.machine.TaskMachine.{TaskMachine}
 use Rattle.task_run.specs.Machine.{want, proceed, cpu_of}
-use Rattle.task_run.specs.Serving.{changed, due_with, period_by, period_with, with_due, with_effects, begun, Told, told, Serving}
+use Rattle.task_run.specs.kept.Serving.{changed, due_with, period_by, period_with, with_due, with_effects, begun, Told, told, Serving}
 use Rattle.task_run.proofs.Accesses.{machine_at, Steps, put_step, holding_put, serving_at}
 use Rattle.task_run.proofs.Traps.{proceed_serving}
 use Rattle.persist_timer.specs.Due.{armed}
@@ -52,9 +54,9 @@ module _ (program : Program) (m : Model) (words : Memory) (pick : Pick) (stamp :
       let y : Saved = with_due h.y timer (armed pick.time delay) in
       let few : length program.timers ≤ 8 = accepted.counts.timers in
       let known : timer < length program.timers = h.progress.known in
-      put_step program m words r (26 + 2 * timer) (armed pick.time delay) (machine_at pick stamp b ending e (WritePeriod timer period)) h (λ c. refl) λ dirty fresh.
-      serving_at program m (store words (place_in pick.thread.0 (working_mask b) (26 + 2 * timer)) (armed pick.time delay)) r e (WritePeriod timer period) y h.sends h.s h.o h.v
-      (holding_put program m words r (26 + 2 * timer) (armed pick.time delay) y h.sends h.s h.o h.v h dirty fresh
+      put_step program m words r (header.due timer) (armed pick.time delay) (machine_at pick stamp b ending e (WritePeriod timer period)) h (λ c. refl) λ dirty fresh.
+      serving_at program m (store words (place_in pick.thread.0 (working_mask b) (header.due timer)) (armed pick.time delay)) r e (WritePeriod timer period) y h.sends h.s h.o h.v
+      (holding_put program m words r (header.due timer) (armed pick.time delay) y h.sends h.s h.o h.v h dirty fresh
       (λ k. words-due h.y h.s h.o h.v timer (armed pick.time delay) k (omega arith)) h.logged h.sent h.size)
       (record { before = h.y; delay = delay; arming = h.progress; is = refl })
 
@@ -75,11 +77,11 @@ module _ (program : Program) (m : Model) (words : Memory) (pick : Pick) (stamp :
       let few : length program.timers ≤ 8 = accepted.counts.timers in
       let known : timer < length program.timers = arming.known in
       let next : Cpu = advance (cpu_of e) in
-      put_step program m words r (27 + 2 * timer) period (proceed program r next) h (λ c. refl) λ dirty fresh.
-      let n : Memory = store words (place_in pick.thread.0 (working_mask b) (27 + 2 * timer)) period in
-      let stands' : StandsPrivate n program m = rw (is_dirty-true b ((27 + 2 * timer) / 8) dirty) at stands in
+      put_step program m words r (header.period timer) period (proceed program r next) h (λ c. refl) λ dirty fresh.
+      let n : Memory = store words (place_in pick.thread.0 (working_mask b) (header.period timer)) period in
+      let stands' : StandsPrivate n program m = rw (is_dirty-true b (header.period timer / 8) dirty) at stands in
       proceed_serving program m n r next y h.sends h.s h.o h.v stands' shape
-      (holding_put program m words r (27 + 2 * timer) period y h.sends h.s h.o h.v h dirty fresh
+      (holding_put program m words r (header.period timer) period y h.sends h.s h.o h.v h dirty fresh
       (λ k. words-period h.y h.s h.o h.v timer period k (omega arith)) h.logged h.sent h.size)
       (going_from p g (Arms timer half.delay period) arming.executing.is_act next y h.sends effects refl arming.executing.goes_on
       (is ∙ set_made (stamp + 1) pick.thread.0 g.effects s (begun pick p.x) half.before g.made) g.sent g.few)
@@ -96,11 +98,11 @@ module _ (program : Program) (m : Model) (words : Memory) (pick : Pick) (stamp :
       let few : length program.timers ≤ 8 = accepted.counts.timers in
       let known : timer < length program.timers = h.progress.1 in
       let next : Cpu = advance (cpu_of e) in
-      put_step program m words r (26 + 2 * timer) 0 (proceed program r next) h (λ c. refl) λ dirty fresh.
-      let n : Memory = store words (place_in pick.thread.0 (working_mask b) (26 + 2 * timer)) 0 in
-      let stands' : StandsPrivate n program m = rw (is_dirty-true b ((26 + 2 * timer) / 8) dirty) at stands in
+      put_step program m words r (header.due timer) 0 (proceed program r next) h (λ c. refl) λ dirty fresh.
+      let n : Memory = store words (place_in pick.thread.0 (working_mask b) (header.due timer)) 0 in
+      let stands' : StandsPrivate n program m = rw (is_dirty-true b (header.due timer / 8) dirty) at stands in
       proceed_serving program m n r next y h.sends h.s h.o h.v stands' shape
-      (holding_put program m words r (26 + 2 * timer) 0 y h.sends h.s h.o h.v h dirty fresh
+      (holding_put program m words r (header.due timer) 0 y h.sends h.s h.o h.v h dirty fresh
       (λ k. words-due h.y h.s h.o h.v timer 0 k (omega arith)) h.logged h.sent h.size)
       (going_from p g (Stops timer) h.progress.0.is_act next y h.sends effects refl h.progress.0.goes_on
       (set_made (stamp + 1) pick.thread.0 g.effects s (begun pick p.x) h.y g.made) g.sent g.few)

@@ -3,6 +3,7 @@ use Rattle.std.proofs.Common.{◌≡◌, ℕ, ◌+◌, ◌-◌, ◌<◌, false, 
 use Rattle.std.specs.Prelude.{Option, Some, None}
 use Rattle.std.proofs.lemmas.List.{append-nil}
 use Rattle.fram_words.specs.Places.{Memory}
+use Rattle.fram_words.specs.Held.{origin_word}
 use Rattle.ink_base.specs.declared.ids.TaskId.{TaskId}
 use Rattle.task_isa.specs.declared.program.Program.{Program}
 use Rattle.task_isa.specs.declared.sent.Sent.{Sent}
@@ -13,11 +14,11 @@ use Rattle.ink_layout.specs.declared.pick.Pick.{Pick}
 use Rattle.never_cut.specs.declared.model.Model.{Model}
 use Rattle.never_cut.specs.Entries.{Readings}
 use Rattle.never_cut.specs.Sound.{IsSound}
-use Rattle.never_cut.specs.Stands.{Saved, saved, origin_word}
+use Rattle.never_cut.specs.Stands.{Saved, saved}
 use Rattle.never_cut.specs.Picked.{IsPicked}
 use Rattle.task_run.specs.declared.ending.Ending.TheVariants as endings
 use Rattle.task_run.specs.Machine.{execution_of}
-use Rattle.task_run.specs.Serving.{Assignment, assignment, whole, begun, with_effects, result, config_of, IsTrap, IsEndOf, Told, RunningIn, Finishing, worked_in}
+use Rattle.task_run.specs.kept.Serving.{Assignment, assignment, whole, begun, with_effects, result, config_of, IsTrap, IsEndOf, Told, RunningIn, Finishing, worked_in}
 use Rattle.task_run.proofs.Acts.{IsOwnTask, own_task}
 use Rattle.task_run.proofs.Traps.{Keeps, begun-keeps, result-trap, worked-none, ends-trap, end-early}
 

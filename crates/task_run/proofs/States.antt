@@ -5,7 +5,9 @@ use Rattle.std.proofs.lemmas.Bool.{cases_Bool, cases_eq, ltb-true, ltb-false, le
 use Rattle.std.proofs.lemmas.List.{length-append, length-map, length-set, map-append, append_assoc, get_or_append_left, get_or_at}
 use Rattle.ink_base.specs.declared.output.Output.{Output}
 use Rattle.fram_words.specs.Places.{Log, Memory, store, perform}
+use Rattle.fram_words.specs.Header as header
 use Rattle.fram_words.proofs.Frames.{store-same, store-other}
+use Rattle.fram_words.specs.Held.{output_word}
 use Rattle.thread_state.specs.Pages.{place_in, working, working_mask, Buffer, put}
 use Rattle.thread_state.proofs.Pages.{is_dirty-true}
 use Rattle.task_isa.specs.declared.act.Act.TheVariants.{Loads, Saves, Puts}
@@ -18,13 +20,13 @@ use Rattle.ink_layout.specs.declared.pick.Pick.{Pick}
 use Rattle.never_cut.specs.declared.model.Model.{Model}
 use Rattle.never_cut.specs.Commit.{stamped}
 use Rattle.never_cut.specs.Sound.{HasShape}
-use Rattle.never_cut.specs.Stands.{Saved, saved, thread_words, output_word, log_of, AreLogged, StandsPrivate}
+use Rattle.never_cut.specs.Stands.{Saved, saved, thread_words, log_of, AreLogged, StandsPrivate}
 use Rattle.task_run.specs.declared.ending.Ending.{Ending}
 use Rattle.task_run.specs.declared.execution.Execution.{Execution}
 use Rattle.task_run.specs.declared.phase.Phase.TheVariants.{ReadState, WriteState, ReadCount, StoreLog, WriteCount}
 use Rattle.task_run.specs.declared.machine.TaskMachine.{TaskMachine}
 use Rattle.task_run.specs.Machine.{want, after, proceed, cpu_of}
-use Rattle.task_run.specs.Serving.{Assignment, assignment, begun, with_effects, Told, told, RunningIn, Serving}
+use Rattle.task_run.specs.kept.Serving.{Assignment, assignment, begun, with_effects, Told, told, RunningIn, Serving}
 use Rattle.task_run.proofs.Accesses.{machine_at, Steps, picked_at, put_step, holding_load, holding_put, serving_at}
 use Rattle.task_run.proofs.Traps.{begun-keeps, proceed_serving}
 use Rattle.task_run.proofs.Words.{words-outputs, words-state, words-of_outputs, words-of_state}
@@ -61,8 +63,8 @@ module _ (program : Program) (m : Model) (words : Memory) (pick : Pick) (stamp :
       let g = h.progress.0.running in
       let state : h.y.state ≡ g.effects.state = state_is p g in
       let within : n < length g.effects.state = subst (λ (l : List ℕ). n < length l) state h.progress.1 in
-      let word : working words pick.thread.0 b (48 + n) ≡ get_or g.effects.state n 0 =
-      h.buffered.words (48 + n) ∙ (words-of_state h.y h.s h.o h.v n ∙ ap (λ (l : List ℕ). get_or l n 0) state)
+      let word : working words pick.thread.0 b (header.state n) ≡ get_or g.effects.state n 0 =
+      h.buffered.words (header.state n) ∙ (words-of_state h.y h.s h.o h.v n ∙ ap (λ (l : List ℕ). get_or l n 0) state)
       in
       let next : Cpu = advance_with (cpu_of e) c (get_or g.effects.state n 0 % 2 ^ 32) in
       subst (λ w. Serving program words m (proceed program r (advance_with (cpu_of e) c (w % 2 ^ 32)))) (sym word)
@@ -80,11 +82,11 @@ module _ (program : Program) (m : Model) (words : Memory) (pick : Pick) (stamp :
       let next : Cpu = advance (cpu_of e) in
       let y : Saved = record (h.y) { state = set h.y.state n v } in
       let effects : Effects = record (g.effects) { state = set g.effects.state n v } in
-      put_step program m words r (48 + n) v (proceed program r next) h (λ k. refl) λ dirty fresh.
-      let n' : Memory = store words (place_in pick.thread.0 (working_mask b) (48 + n)) v in
-      let stands' : StandsPrivate n' program m = rw (is_dirty-true b ((48 + n) / 8) dirty) at stands in
+      put_step program m words r (header.state n) v (proceed program r next) h (λ k. refl) λ dirty fresh.
+      let n' : Memory = store words (place_in pick.thread.0 (working_mask b) (header.state n)) v in
+      let stands' : StandsPrivate n' program m = rw (is_dirty-true b (header.state n / 8) dirty) at stands in
       proceed_serving program m n' r next y h.sends h.s h.o h.v stands' shape
-      (holding_put program m words r (48 + n) v y h.sends h.s h.o h.v h dirty fresh (λ k. words-state h.y h.s h.o h.v n v k h.progress.1) h.logged h.sent
+      (holding_put program m words r (header.state n) v y h.sends h.s h.o h.v h dirty fresh (λ k. words-state h.y h.s h.o h.v n v k h.progress.1) h.logged h.sent
       (length-set h.y.state n v ∙ h.size))
       (going_from p g (Saves n v) h.progress.0.is_act next y h.sends effects (rw (lt-ltb n (length g.effects.state) within) refl) h.progress.0.goes_on
       (ap (λ (z : Saved). record z { state = set z.state n v }) g.made) g.sent g.few)

@@ -6,6 +6,7 @@ use Rattle.std.proofs.lemmas.Bool.{cases_Bool, cases_eq, eq-eqb, ne_eqb, lt-ltb}
 use Rattle.std.proofs.lemmas.List.{get_or-set_same, get_or-set_other}
 use Rattle.ink_base.specs.declared.event.Origin.TheVariants as origins
 use Rattle.ink_base.specs.declared.ids.TimerId.{TimerId}
+use Rattle.fram_words.specs.Held.{due_word}
 use Rattle.persist_timer.specs.Due.{after_service}
 use Rattle.task_isa.specs.declared.program.Program.{Program}
 use Rattle.task_isa.specs.declared.timer_set.TimerSet.{TimerSet}
@@ -13,8 +14,7 @@ use Rattle.prog_check.specs.Lookup.{timer_def}
 use Rattle.never_cut.specs.declared.timer_model.TimerModel.{TimerModel}
 use Rattle.never_cut.specs.State.{no_timer}
 use Rattle.never_cut.specs.Commit.{moved_on, next_due, set_by, with_timers}
-use Rattle.never_cut.specs.Stands.{due_word}
-use Rattle.task_run.specs.Serving.{changed, due_with, period_by, period_with}
+use Rattle.task_run.specs.kept.Serving.{changed, due_with, period_by, period_with}
 use Rattle.task_run.proofs.SentItems.{changed_same, changed_other}
 
 -- the timer is one of thread t

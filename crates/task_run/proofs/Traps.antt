@@ -8,6 +8,7 @@ use Rattle.ink_base.specs.declared.event.Origin.{Origin}
 use Rattle.ink_base.specs.declared.event.Origin.TheVariants as origins
 use Rattle.ink_base.specs.declared.ids.TaskId.{TaskId}
 use Rattle.fram_words.specs.Places.{Commit, Memory}
+use Rattle.fram_words.specs.Held.{origin_word}
 use Rattle.thread_state.specs.Pages.{no_writes}
 use Rattle.task_isa.specs.declared.program.Program.{Program}
 use Rattle.task_isa.specs.declared.sent.Sent.{Sent}
@@ -19,7 +20,7 @@ use Rattle.never_cut.specs.declared.model.Model.{Model}
 use Rattle.never_cut.specs.declared.scan_model.ScanModel.{ScanModel}
 use Rattle.never_cut.specs.State.{thread_of}
 use Rattle.never_cut.specs.Pending.{pending_in}
-use Rattle.never_cut.specs.Stands.{Saved, saved, origin_word, StandsPrivate, StandsThread}
+use Rattle.never_cut.specs.Stands.{Saved, saved, StandsPrivate, StandsThread}
 use Rattle.never_cut.specs.Sound.{HasShape}
 use Rattle.never_cut.specs.Picked.{IsPicked}
 use Rattle.task_run.specs.declared.ending.Ending.{Ending}
@@ -27,7 +28,7 @@ use Rattle.task_run.specs.declared.ending.Ending.TheVariants as endings
 use Rattle.task_run.specs.declared.phase.Phase.TheVariants.{WriteFirst, Fetch, WriteNext}
 use Rattle.task_run.specs.declared.machine.TaskMachine.{TaskMachine}
 use Rattle.task_run.specs.Machine.{trap, phase_again, proceed, stepped}
-use Rattle.task_run.specs.Serving.{Assignment, assignment, whole, rings_of, AreSent, begun, consumed, with_effects, effects_of, result, worked, config_of, IsTrap, IsEnd, IsEndOf, Told, told, Again, Serving}
+use Rattle.task_run.specs.kept.Serving.{Assignment, assignment, whole, rings_of, AreSent, begun, consumed, with_effects, effects_of, result, worked, config_of, IsTrap, IsEnd, IsEndOf, Told, told, Again, Serving}
 use Rattle.task_run.proofs.Accesses.{Holding, serving_at, unwritten}
 
 -- what is in a pipe before anything is sent stands in its ring

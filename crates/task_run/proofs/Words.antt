@@ -4,24 +4,14 @@ use Rattle.std.proofs.lemmas.Bool.{cases_eq, eq-eqb, ne_eqb}
 use Rattle.std.proofs.lemmas.List.{get_or-set_same, get_or-set_other, get_or-append-add, set-append_right}
 use Rattle.std.specs.Prelude.{Some}
 use Rattle.ink_base.specs.declared.output.Output.{Output}
+use Rattle.fram_words.specs.Held.{next_word}
 use Rattle.thread_state.specs.Pages.{put}
-use Rattle.never_cut.specs.Stands.{Saved, thread_words, next_word}
+use Rattle.never_cut.specs.Stands.{Saved, thread_words}
+use Rattle.never_cut.proofs.Blocks.{below_eight, header_list}
 use Rattle.task_run.specs.declared.ending.Ending.{Ending}
 use Rattle.task_run.specs.declared.ending.Ending.TheVariants as endings
 use Rattle.task_run.specs.Endings.{total_word}
-use Rattle.task_run.specs.Serving.{changed, with_due, rested, finish, total_of, with_total}
-
--- what holds of each number below 8 holds of a number below 8
-pub below_eight : (P : ℕ → Type 0) → P 0 → P 1 → P 2 → P 3 → P 4 → P 5 → P 6 → P 7 → (q : ℕ) → q < 8 → P q
-below_eight P a b c d e f g h zero lt = a
-below_eight P a b c d e f g h (suc zero) lt = b
-below_eight P a b c d e f g h (suc (suc zero)) lt = c
-below_eight P a b c d e f g h (suc (suc (suc zero))) lt = d
-below_eight P a b c d e f g h (suc (suc (suc (suc zero)))) lt = e
-below_eight P a b c d e f g h (suc (suc (suc (suc (suc zero))))) lt = f
-below_eight P a b c d e f g h (suc (suc (suc (suc (suc (suc zero)))))) lt = g
-below_eight P a b c d e f g h (suc (suc (suc (suc (suc (suc (suc zero))))))) lt = h
-below_eight P a b c d e f g h (suc (suc (suc (suc (suc (suc (suc (suc q)))))))) lt = absurd (omega arith)
+use Rattle.task_run.specs.kept.Serving.{changed, with_due, rested, finish, total_of, with_total}
 
 pub put_set : (xs : List ℕ) (i v w : ℕ) → i < length xs → put (λ k. get_or xs k 0) i v w ≡ get_or (set xs i v) w 0
 put_set xs i v w lt =
@@ -29,16 +19,6 @@ put_set xs i v w lt =
       | inl e ↦ rw (eq-eqb w i e) (sym (ap (λ k. get_or (set xs i v) k 0) e ∙ get_or-set_same xs i v 0 lt))
       | inr ne ↦ rw (ne_eqb w i ne) (sym (get_or-set_other xs i w v 0 ne))
     ]
-
--- the words before the state
-abbrev header : Saved → ℕ → ℕ → ℕ → List ℕ
-header y s o v =
-    s ∷ next_word y.running ∷ y.first ∷ o ∷ v ∷ y.ended ∷ y.served ∷ y.trapped ∷ y.expired ∷ length y.outputs
-    ∷ y.written 0 ∷ y.written 1 ∷ y.written 2 ∷ y.written 3 ∷ y.written 4 ∷ y.written 5 ∷ y.written 6 ∷ y.written 7
-    ∷ y.taken 0 ∷ y.taken 1 ∷ y.taken 2 ∷ y.taken 3 ∷ y.taken 4 ∷ y.taken 5 ∷ y.taken 6 ∷ y.taken 7
-    ∷ y.due 0 ∷ y.period 0 ∷ y.due 1 ∷ y.period 1 ∷ y.due 2 ∷ y.period 2 ∷ y.due 3 ∷ y.period 3
-    ∷ y.due 4 ∷ y.period 4 ∷ y.due 5 ∷ y.period 5 ∷ y.due 6 ∷ y.period 6 ∷ y.due 7 ∷ y.period 7
-    ∷ 0 ∷ 0 ∷ 0 ∷ 0 ∷ 0 ∷ 0 ∷ []
 
 pub words-length : (y : Saved) (s o v : ℕ) → length (thread_words y s o v) ≡ 48 + length y.state
 unfolding thread_words
@@ -135,7 +115,7 @@ unfolding thread_words
 words-state y s o v i n w lt =
     let at : 48 + i - 48 ≡ i = omega arith in
     put_set (thread_words y s o v) (48 + i) n w (omega (arith, words-length y s o v))
-    ∙ ap (λ l. get_or l w 0) (set-append_right (header y s o v) y.state 48 (48 + i) n refl (omega arith) ∙ ap (λ k. header y s o v ++ set y.state k n) at)
+    ∙ ap (λ l. get_or l w 0) (set-append_right (header_list y s o v) y.state 48 (48 + i) n refl (omega arith) ∙ ap (λ k. header_list y s o v ++ set y.state k n) at)
 
 -- the reads
 pub words-of_outputs : (y : Saved) (s o v : ℕ) → get_or (thread_words y s o v) 9 0 ≡ length y.outputs
@@ -155,7 +135,7 @@ words-of_stamp y s o v = refl
 
 pub words-of_state : (y : Saved) (s o v i : ℕ) → get_or (thread_words y s o v) (48 + i) 0 ≡ get_or y.state i 0
 unfolding thread_words
-words-of_state y s o v i = get_or-append-add (header y s o v) y.state i 0
+words-of_state y s o v i = get_or-append-add (header_list y s o v) y.state i 0
 
 pub words-of_written : (y : Saved) (s o v q : ℕ) → q < 8 → get_or (thread_words y s o v) (10 + q) 0 ≡ y.written q
 unfolding thread_words

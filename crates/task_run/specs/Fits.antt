@@ -1,8 +1,7 @@
 -- The ranges in which an access of a task can be made.
 use Rattle.std.specs.Prelude.{ℕ, ◌+◌, ◌^◌, ◌<◌, ◌≤◌, length, Option, Some}
 use Rattle.ink_base.specs.declared.ids.TaskId.{TaskId}
-use Rattle.ink_base.specs.declared.event.Origin.{Origin}
-use Rattle.ink_base.specs.declared.event.Origin.TheVariants as origins
+use Rattle.fram_words.specs.Held.{FitsOrigin}
 use Rattle.task_isa.specs.declared.program.Program.{Program}
 use Rattle.prog_check.specs.Lookup.{thread_def, pipe_def, task_def}
 use Rattle.task_run.specs.declared.execution.Execution.{Execution}
@@ -19,12 +18,6 @@ pub record FitsExecution (program : Program) (x : Execution) : Type 0 where
   pub small : x.at < 4096
   pub few : x.executed < 4096
   pub left : x.executed < (task_def program x.task.0).limit
-
--- a timer's deadline has 48 bits
-abbrev pub FitsOrigin : Origin → Type 0
-FitsOrigin (origins.Source source count) = Unit {0}
-FitsOrigin (origins.Pipe pipe item) = Unit {0}
-FitsOrigin (origins.Timer timer deadline) = deadline < 2 ^ 48
 
 -- an instruction is executed that sends to a pipe of the program
 abbrev pub FitsSending : Program → Execution → Sending → Type 0

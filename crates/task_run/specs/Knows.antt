@@ -1,11 +1,8 @@
 -- What a task's registers tell of the words and the state, and what each of its accesses keeps.
-use Rattle.std.specs.Prelude.{◌≡◌, ◌≢◌, ℕ, ◌+◌, ◌%◌, ◌^◌, ◌<◌, false, length, Some}
+use Rattle.std.specs.Prelude.{◌≡◌, ◌≢◌, ℕ, ◌+◌, ◌%◌, ◌^◌, ◌<◌, false, length}
 use Rattle.fram_words.specs.Places.{Memory, Ack, perform, answer}
 use Rattle.thread_state.specs.Pages.{committed}
 use Rattle.task_isa.specs.declared.program.Program.{Program}
-use Rattle.task_isa.specs.declared.instr.Instr.{Instr}
-use Rattle.task_isa.specs.Code.{word_of_instr, decoded}
-use Rattle.prog_check.specs.Lookup.{task_def, instr_at}
 use Rattle.ink_layout.specs.declared.pick.Pick.{Pick}
 use Rattle.ink_layout.specs.Points.{entry_of_point}
 use Rattle.never_cut.specs.declared.model.Model.{Model}
@@ -21,7 +18,7 @@ use Rattle.task_run.specs.declared.phase.Phase.TheVariants.{StoreCommit, StoreAc
 use Rattle.task_run.specs.declared.machine.TaskMachine.{TaskMachine}
 use Rattle.task_run.specs.Machine.{want, take, point, begin, is_over}
 use Rattle.task_run.specs.Fits.{FitsTask, FitsWord}
-use Rattle.task_run.specs.Serving.{Serving}
+use Rattle.task_run.specs.kept.Serving.{Serving}
 
 -- from the commit to the release: an event of source i with this count is finished, and no other thread has a finished one
 pub record Releasing (program : Program) (m : Model) (pick : Pick) (stamp i count : ℕ) : Type 0 where
@@ -51,13 +48,6 @@ abbrev pub KeepsCopies : Phase → Memory → Memory → Type 0
 KeepsCopies StoreCommit old new = Unit {0}
 KeepsCopies _ old new = SameCommitted old new
 
--- an instruction is what its word is read as
-abbrev pub IsReadBack : Instr → Type 0
-IsReadBack instr = decoded (word_of_instr instr) ≡ Some instr
-
-abbrev pub HasCode : Program → Type 0
-HasCode program = (x n : ℕ) → x < length program.tasks → n < length (task_def program x).code → IsReadBack (instr_at (task_def program x) n)
-
 -- One access: its entry is legal, the access allowed, the words stand for the state after it, and the registers after it tell of both.
 pub record KeepsAll (program : Program) (readings : Readings) (words : Memory) (m : Model) (r : TaskMachine) : Type 0 where
   pub kept : IsKept program readings words m (want program r) (entry_of_point (point r))
@@ -69,7 +59,7 @@ pub record KeepsAll (program : Program) (readings : Readings) (words : Memory) (
 abbrev pub EveryTaskCommits : Type 0
 EveryTaskCommits =
     (program : Program) (readings : Readings) (words : Memory) (m : Model) (r : TaskMachine) →
-    HasCode program → Background program readings words m → Knows program words m r → is_over r.phase ≡ false → KeepsAll program readings words m r
+    Background program readings words m → Knows program words m r → is_over r.phase ≡ false → KeepsAll program readings words m r
 
 -- what the registers tell outlasts the accesses of sources and clock
 abbrev pub EveryTaskOutlasts : Type 0

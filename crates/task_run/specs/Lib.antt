@@ -2,6 +2,5 @@ pub mod Endings
 pub mod Machine
 pub mod Fits
 pub mod Reached
-pub mod Serving
 pub mod Knows
-pub mod Copies
+pub mod kept

@@ -1,9 +1,12 @@
 -- The machine that serves one pick: in each phase one access, and the registers after it.
 use Rattle.std.specs.Prelude.{ℕ, ◌+◌, ◌*◌, ◌/◌, ◌%◌, ◌^◌, nat_lt, Bool, true, false, if◌then◌else◌, replicate, Option, Some, None}
 use Rattle.ink_base.specs.declared.ids.TaskId.{TaskId}
+use Rattle.ink_base.specs.declared.output.Output.{Output}
 use Rattle.ink_base.specs.declared.event.Origin.{Origin}
 use Rattle.ink_base.specs.declared.event.Origin.TheVariants as origins
 use Rattle.fram_words.specs.Places.{Code, Commit, Log, Ring, Ack, Slot, Clock, Access, Load, Store}
+use Rattle.fram_words.specs.Header as header
+use Rattle.fram_words.specs.Held.{next_word, origin_word, due_word, output_word}
 use Rattle.event_pipe.specs.Ring.{ring_index, has_room}
 use Rattle.persist_timer.specs.Due.{after_service, armed, is_expired}
 use Rattle.push_core.specs.Slots.{empty_word}
@@ -21,7 +24,6 @@ use Rattle.ink_layout.specs.declared.pick.Pick.{Pick}
 use Rattle.ink_layout.specs.declared.slot_at.SlotAt.{SlotAt}
 use Rattle.ink_layout.specs.declared.kernel_point.KernelPoint.{KernelPoint}
 use Rattle.ink_layout.specs.declared.kernel_point.KernelPoint.TheVariants as points
-use Rattle.never_cut.specs.Stands.{origin_word}
 use Rattle.task_run.specs.declared.ending.Ending.{Ending}
 use Rattle.task_run.specs.declared.ending.Ending.TheVariants as endings
 use Rattle.task_run.specs.declared.execution.Execution.{Execution}
@@ -65,6 +67,10 @@ is_overdue _ _ first time = false
 abbrev pub is_late : Program → TaskMachine → Bool
 is_late program r = is_overdue (thread_def program r.pick.thread.0).expires r.pick.running r.pick.first r.pick.time
 
+-- an output of this value at this commit
+abbrev pub output_of : TaskMachine → (value : ℕ) → Output
+output_of r value = record { stamp = r.stamp + 1; thread = r.pick.thread; value = value }
+
 abbrev pub fetch : TaskMachine → Action
 fetch r = Make (Load (Code r.execution.task.0 r.execution.at))
 
@@ -73,32 +79,32 @@ abbrev pub sending : Program → Sending → (written : ℕ) → Access
 sending program s written = Store (Ring s.pipe (ring_index (pipe_def program s.pipe).places written)) s.value
 
 abbrev pub action : Program → TaskMachine → Phase → Action
-action program r WriteFirst = Put 2 r.pick.time
-action program r WriteOrigin = Put 3 (origin_word r.pick.event.origin)
-action program r WriteValue = Put 4 r.pick.event.value
-action program r WriteTaken = Put (18 + device r) (r.pick.taken + 1)
-action program r ReadPeriod = Get (27 + 2 * device r)
-action program r (WriteDue word) = Put (26 + 2 * device r) word
-action program r Resume = if is_late program r then Put 1 0 else fetch r
+action program r WriteFirst = Put header.first r.pick.time
+action program r WriteOrigin = Put header.origin (origin_word r.pick.event.origin)
+action program r WriteValue = Put header.value r.pick.event.value
+action program r WriteTaken = Put (header.taken (device r)) (r.pick.taken + 1)
+action program r ReadPeriod = Get (header.period (device r))
+action program r (WriteDue word) = Put (header.due (device r)) word
+action program r Resume = if is_late program r then Put header.next (next_word None) else fetch r
 action program r Fetch = fetch r
-action program r (ReadState a n) = Get (48 + n)
-action program r (WriteState n v) = Put (48 + n) v
-action program r (ReadCount v) = Get 9
-action program r (StoreLog n v) = Make (Store (Log r.pick.thread.0 n) ((r.stamp + 1) * 2 ^ 32 + v))
-action program r (WriteCount n) = Put 9 n
+action program r (ReadState a n) = Get (header.state n)
+action program r (WriteState n v) = Put (header.state n) v
+action program r (ReadCount v) = Get header.outputs
+action program r (StoreLog n v) = Make (Store (Log r.pick.thread.0 n) (output_word (output_of r v)))
+action program r (WriteCount n) = Put header.outputs n
 action program r (LoadReader s) = Make (Load (Commit (pipe_def program s.pipe).reader.0))
-action program r (LoadTaken s commit) = Make (Load (place_in (pipe_def program s.pipe).reader.0 commit (18 + s.pipe)))
-action program r (ReadWritten s taken) = Get (10 + s.pipe)
+action program r (LoadTaken s commit) = Make (Load (place_in (pipe_def program s.pipe).reader.0 commit (header.taken s.pipe)))
+action program r (ReadWritten s taken) = Get (header.written s.pipe)
 action program r (StoreItem s written) = Make (sending program s written)
-action program r (WriteWritten s written) = Put (10 + s.pipe) (written + 1)
-action program r (WriteArmed timer delay period) = Put (26 + 2 * timer) (armed r.pick.time delay)
-action program r (WritePeriod timer period) = Put (27 + 2 * timer) period
-action program r (WriteStopped timer) = Put (26 + 2 * timer) 0
-action program r WriteNext = Put 1 (next_by r.ending)
-action program r WriteFinished = Put 5 (r.pick.position + 1)
+action program r (WriteWritten s written) = Put (header.written s.pipe) (written + 1)
+action program r (WriteArmed timer delay period) = Put (header.due timer) (armed r.pick.time delay)
+action program r (WritePeriod timer period) = Put (header.period timer) period
+action program r (WriteStopped timer) = Put (header.due timer) (due_word None)
+action program r WriteNext = Put header.next (next_by r.ending)
+action program r WriteFinished = Put header.finished (r.pick.position + 1)
 action program r ReadTotal = Get (total_word r.ending)
 action program r (WriteTotal n) = Put (total_word r.ending) n
-action program r WriteStamp = Put 0 (r.stamp + 1)
+action program r WriteStamp = Put header.stamp (r.stamp + 1)
 action program r StoreCommit = Make (commit_access r.pick.thread.0 r.buffer)
 action program r (StoreAck source count) = Make (Store (Ack source.0) ((count + 1) % 64))
 action program r StoreEmpty = Make (emptying program r)

@@ -1,7 +1,10 @@
 //! How a task ends.
 
 ghost use Rattle.std.specs.Prelude.{◌≡◌, ◌<◌};
+ghost use Rattle.fram_words.specs.Header as header;
 ghost use Rattle.task_run.specs.Endings as endings;
+
+use fram_words::Header;
 
 /// How the task at hand ends its service or goes on, as far as is known; `Done` until the run shows otherwise.
 #[derive(Clone, Copy)]
@@ -30,12 +33,12 @@ impl Ending {
     // The header word that counts the services that end so.
     pub(crate) fn total_word(self) -> u32
         ensures total { result ≡ endings.total_word self }
-        ensures header { result < 48 }
+        ensures header { result < header.words }
     {
         match self {
-            Ending::Trapped => 7,
-            Ending::Expired => 8,
-            _ => 6,
+            Ending::Trapped => Header::Trapped.word(),
+            Ending::Expired => Header::Expired.word(),
+            _ => Header::Served.word(),
         }
     }
 }

@@ -2,7 +2,6 @@
 #![tactic(auto)]
 
 mod acting;
-mod code;
 mod ending;
 mod execution;
 mod following;
@@ -16,7 +15,6 @@ mod sending;
 mod steps;
 mod want;
 
-pub use code::read_code_back;
 pub use ending::Ending;
 pub use execution::Execution;
 pub use laws::tasks_commit;

@@ -97,8 +97,9 @@ impl TaskMachine {
         }
     }
 
-    // What the access that is wanted means to the never-cut kernel.
-    fn point(&self) -> KernelPoint
+    /// What the wanted access means to the never-cut kernel, whatever word it finds: what `take` answers.
+    #[inline(always)]
+    pub fn point(&self) -> KernelPoint
         ensures { result ≡ machine.point self.now }
     {
         match self.phase {

@@ -4,11 +4,12 @@ ghost use Rattle.std.specs.Prelude.{◌≡◌, ◌<◌};
 ghost use Rattle.std.specs.Option.{ForSome};
 ghost use Rattle.prog_check.specs.Accepted.{IsAccepted};
 ghost use Rattle.task_run.specs.Machine as machine;
-ghost use Rattle.task_run.specs.Copies as copies;
+ghost use Rattle.task_run.specs.kept.Copies as copies;
 ghost use Rattle.task_run.specs.Fits.{FitsTask};
 
 use crate::machine::TaskMachine;
 use crate::phase::Phase;
+use fram_words::Header;
 use task_isa::Program;
 
 impl TaskMachine {
@@ -33,22 +34,21 @@ impl TaskMachine {
         ensures few { ForSome result (λ page. page < 38) }
     {
         match self.phase {
-            Phase::WriteFirst
-            | Phase::WriteOrigin
-            | Phase::WriteValue
-            | Phase::WriteNext
-            | Phase::WriteFinished
-            | Phase::WriteStamp => Some(0),
-            Phase::WriteTaken => Some((18 + self.device()) / 8),
-            Phase::WriteDue { .. } => Some((26 + 2 * self.device()) / 8),
-            Phase::Resume if self.is_late(program) => Some(0),
-            Phase::WriteState { index, .. } => Some((48 + index) / 8),
-            Phase::WriteCount { .. } => Some(1),
-            Phase::WriteWritten { sending, .. } => Some((10 + sending.pipe) / 8),
-            Phase::WriteArmed { timer, .. } | Phase::WriteStopped { timer } => Some(
-                (26 + 2 * timer) / 8,
-            ),
-            Phase::WritePeriod { timer, .. } => Some((27 + 2 * timer) / 8),
+            Phase::WriteFirst => Some(Header::First.page()),
+            Phase::WriteOrigin => Some(Header::Origin.page()),
+            Phase::WriteValue => Some(Header::Value.page()),
+            Phase::WriteTaken => Some(Header::Taken(self.device()).page()),
+            Phase::WriteDue { .. } => Some(Header::Due(self.device()).page()),
+            Phase::Resume if self.is_late(program) => Some(Header::Next.page()),
+            Phase::WriteState { index, .. } => Some((Header::WORDS + index) / 8),
+            Phase::WriteCount { .. } => Some(Header::Outputs.page()),
+            Phase::WriteWritten { sending, .. } => Some(Header::Written(sending.pipe).page()),
+            Phase::WriteArmed { timer, .. } => Some(Header::Due(timer).page()),
+            Phase::WritePeriod { timer, .. } => Some(Header::Period(timer).page()),
+            Phase::WriteStopped { timer } => Some(Header::Due(timer).page()),
+            Phase::WriteNext => Some(Header::Next.page()),
+            Phase::WriteFinished => Some(Header::Finished.page()),
+            Phase::WriteStamp => Some(Header::Stamp.page()),
             Phase::WriteTotal { .. } => Some(self.ending.total_word() / 8),
             _ => None,
         }

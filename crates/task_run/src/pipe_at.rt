@@ -1,6 +1,7 @@
 //! Where the words of a pipe stand that a sender uses.
 
 ghost use Rattle.std.specs.Prelude.{◌≡◌, ◌+◌, ◌<◌, ◌≤◌, length};
+ghost use Rattle.fram_words.specs.Header as header;
 ghost use Rattle.fram_words.specs.Places.{Commit, Ring};
 ghost use Rattle.fram_words.specs.Steps.{place_of};
 ghost use Rattle.event_pipe.specs.Ring.{ring_index};
@@ -10,10 +11,10 @@ ghost use Rattle.prog_check.specs.Lookup.{pipe_def};
 ghost use Rattle.ink_layout.specs.Shape.{IsOnBoard};
 
 use event_pipe::ring_at;
-use fram_words::Place;
+use fram_words::{Header, Place};
 use ink_base::PipeId;
 use task_isa::Program;
-use thread_state::place_in;
+use thread_state::header_in;
 
 // The commit word of a pipe's reader.
 pub(crate) fn reader_of(program: &Program, pipe: u32) -> Place
@@ -31,13 +32,13 @@ pub(crate) fn reader_of(program: &Program, pipe: u32) -> Place
 pub(crate) fn taken_of(program: &Program, pipe: u32, commit_word: u64) -> Place
     requires accepted { IsAccepted program.now }
     requires known { pipe < length program.now.pipes }
-    ensures place { place_of result ≡ pages.place_in (pipe_def program.now pipe).reader.0 commit_word (18 + pipe) }
+    ensures place { place_of result ≡ pages.place_in (pipe_def program.now pipe).reader.0 commit_word (header.taken pipe) }
     ensures there { IsOnBoard program.now (place_of result) }
 {
-    place_in(
+    header_in(
         program.pipes.as_slice()[pipe as usize].reader,
         commit_word,
-        18 + pipe,
+        Header::Taken(pipe),
     )
 }
 

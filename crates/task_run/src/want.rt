@@ -5,19 +5,20 @@ ghost use Rattle.fram_words.specs.Places as places;
 ghost use Rattle.prog_check.specs.Accepted.{IsAccepted};
 ghost use Rattle.prog_check.specs.Lookup.{thread_def};
 ghost use Rattle.fram_words.specs.Steps.{access_of};
-ghost use Rattle.ink_layout.specs.Shape.{IsOnBoard};
-ghost use Rattle.never_cut.specs.Stands as stands;
+ghost use Rattle.fram_words.specs.Header.{word_of, IsHeader};
+ghost use Rattle.fram_words.specs.Held as held;
+ghost use Rattle.ink_layout.specs.Shape.{IsOnBoard, block_words};
 ghost use Rattle.thread_state.specs.Pages as pages;
 ghost use Rattle.task_run.specs.Machine as machine;
 ghost use Rattle.task_run.specs.declared.phase.Phase.TheVariants as phases;
-ghost use Rattle.task_run.specs.Fits.{FitsChain, FitsExecution, FitsOrigin, FitsTask};
+ghost use Rattle.task_run.specs.Fits.{FitsChain, FitsExecution, FitsTask};
 
 use crate::machine::TaskMachine;
 use crate::parts::{is_overdue, number_of};
 use crate::phase::Phase;
 use crate::pipe_at::{item_of, reader_of, taken_of};
-use fram_words::{Place, Step};
-use ink_base::Origin;
+use fram_words::{Header, Place, Step, due_word, next_word, origin_word, output_word};
+use ink_base::Output;
 use ink_layout::slot_of;
 use persist_timer::armed;
 use push_core::empty;
@@ -33,50 +34,77 @@ impl TaskMachine {
         ensures there { IsOnBoard program.now (places.place_of (access_of result)) }
     {
         match self.phase {
-            Phase::WriteFirst => self.put(program, 2, self.pick.time),
-            Phase::WriteOrigin => self.put(program, 3, origin_word(self.pick.event.origin)),
-            Phase::WriteValue => self.put(program, 4, self.pick.event.value as u64),
-            Phase::WriteTaken => self.put(program, 18 + self.device(), self.pick.taken + 1),
-            Phase::ReadPeriod => self.get(program, 27 + 2 * self.device()),
-            Phase::WriteDue { word } => self.put(program, 26 + 2 * self.device(), word),
+            Phase::WriteFirst => self.put_header(program, Header::First, self.pick.time),
+            Phase::WriteOrigin => self.put_header(
+                program,
+                Header::Origin,
+                origin_word(self.pick.event.origin),
+            ),
+            Phase::WriteValue => self.put_header(
+                program,
+                Header::Value,
+                self.pick.event.value as u64,
+            ),
+            Phase::WriteTaken => self.put_header(
+                program,
+                Header::Taken(self.device()),
+                self.pick.taken + 1,
+            ),
+            Phase::ReadPeriod => self.get_header(program, Header::Period(self.device())),
+            Phase::WriteDue { word } => self.put_header(program, Header::Due(self.device()), word),
             Phase::Resume => self.resume(program),
             Phase::Fetch => self.fetch(program),
-            Phase::ReadState { index, .. } => self.get(program, 48 + index),
-            Phase::WriteState { index, value } => self.put(program, 48 + index, value as u64),
-            Phase::ReadCount { .. } => self.get(program, 9),
+            Phase::ReadState { index, .. } => self.get(program, Header::WORDS + index),
+            Phase::WriteState { index, value } => self.put(
+                program,
+                Header::WORDS + index,
+                value as u64,
+            ),
+            Phase::ReadCount { .. } => self.get_header(program, Header::Outputs),
             Phase::StoreLog { index, value } => self.output(program, index, value),
-            Phase::WriteCount { count } => self.put(program, 9, count as u64),
+            Phase::WriteCount { count } => self.put_header(program, Header::Outputs, count as u64),
             Phase::LoadReader { sending } => Step::Load(reader_of(program, sending.pipe)),
             Phase::LoadTaken {
                 sending,
                 commit_word,
             } => Step::Load(taken_of(program, sending.pipe, commit_word)),
-            Phase::ReadWritten { sending, .. } => self.get(program, 10 + sending.pipe),
+            Phase::ReadWritten { sending, .. } => self.get_header(
+                program,
+                Header::Written(sending.pipe),
+            ),
             Phase::StoreItem { sending, written } => Step::Store(
                 item_of(program, sending.pipe, written),
                 sending.value as u64,
             ),
-            Phase::WriteWritten { sending, written } => self.put(
+            Phase::WriteWritten { sending, written } => self.put_header(
                 program,
-                10 + sending.pipe,
+                Header::Written(sending.pipe),
                 written + 1,
             ),
-            Phase::WriteArmed { timer, delay, .. } => self.put(
+            Phase::WriteArmed { timer, delay, .. } => self.put_header(
                 program,
-                26 + 2 * timer,
+                Header::Due(timer),
                 armed(self.pick.time, delay),
             ),
-            Phase::WritePeriod { timer, period } => self.put(
+            Phase::WritePeriod { timer, period } => self.put_header(
                 program,
-                27 + 2 * timer,
+                Header::Period(timer),
                 period as u64,
             ),
-            Phase::WriteStopped { timer } => self.put(program, 26 + 2 * timer, 0),
-            Phase::WriteNext => self.put(program, 1, self.ending.next_word()),
-            Phase::WriteFinished => self.put(program, 5, self.pick.position as u64 + 1),
+            Phase::WriteStopped { timer } => self.put_header(
+                program,
+                Header::Due(timer),
+                due_word(None),
+            ),
+            Phase::WriteNext => self.put_header(program, Header::Next, self.ending.next_word()),
+            Phase::WriteFinished => self.put_header(
+                program,
+                Header::Finished,
+                self.pick.position as u64 + 1,
+            ),
             Phase::ReadTotal => self.get(program, self.ending.total_word()),
             Phase::WriteTotal { total } => self.put(program, self.ending.total_word(), total),
-            Phase::WriteStamp => self.put(program, 0, self.stamp + 1),
+            Phase::WriteStamp => self.put_header(program, Header::Stamp, self.stamp + 1),
             Phase::StoreCommit => self.commit(program),
             Phase::StoreAck { source, count } => {
                 Step::Store(Place::Ack { source }, (count as u64 + 1) % 64)
@@ -90,7 +118,7 @@ impl TaskMachine {
     fn put(&self, program: &Program, word: u32, value: u64) -> Step
         requires accepted { IsAccepted program.now }
         requires known { self.now.pick.thread.0 < length program.now.threads }
-        requires within { word < 48 + (thread_def program.now self.now.pick.thread.0).state }
+        requires within { word < block_words (thread_def program.now self.now.pick.thread.0) }
         ensures step { access_of result ≡ pages.put_access self.now.pick.thread.0 self.now.buffer word value }
         ensures there { IsOnBoard program.now (places.place_of (access_of result)) }
     {
@@ -101,11 +129,35 @@ impl TaskMachine {
     fn get(&self, program: &Program, word: u32) -> Step
         requires accepted { IsAccepted program.now }
         requires known { self.now.pick.thread.0 < length program.now.threads }
-        requires within { word < 48 + (thread_def program.now self.now.pick.thread.0).state }
+        requires within { word < block_words (thread_def program.now self.now.pick.thread.0) }
         ensures step { access_of result ≡ pages.get_access self.now.pick.thread.0 self.now.buffer word }
         ensures there { IsOnBoard program.now (places.place_of (access_of result)) }
     {
         self.buffer.get(self.pick.thread, word)
+    }
+
+    // The next access of a write to a word of the thread's header.
+    #[inline(always)]
+    fn put_header(&self, program: &Program, header: Header, value: u64) -> Step
+        requires accepted { IsAccepted program.now }
+        requires known { self.now.pick.thread.0 < length program.now.threads }
+        requires header { IsHeader header }
+        ensures step { access_of result ≡ pages.put_access self.now.pick.thread.0 self.now.buffer (word_of header) value }
+        ensures there { IsOnBoard program.now (places.place_of (access_of result)) }
+    {
+        self.put(program, header.word(), value)
+    }
+
+    // The access that reads a word of the thread's header.
+    #[inline(always)]
+    fn get_header(&self, program: &Program, header: Header) -> Step
+        requires accepted { IsAccepted program.now }
+        requires known { self.now.pick.thread.0 < length program.now.threads }
+        requires header { IsHeader header }
+        ensures step { access_of result ≡ pages.get_access self.now.pick.thread.0 self.now.buffer (word_of header) }
+        ensures there { IsOnBoard program.now (places.place_of (access_of result)) }
+    {
+        self.get(program, header.word())
     }
 
     // The first access of a running chain: a write where it has expired, else the load of its task's first code word.
@@ -118,7 +170,7 @@ impl TaskMachine {
         ensures there { IsOnBoard program.now (places.place_of (access_of result)) }
     {
         if self.is_late(program) {
-            self.put(program, 1, 0)
+            self.put_header(program, Header::Next, next_word(None))
         } else {
             self.fetch(program)
         }
@@ -162,14 +214,16 @@ impl TaskMachine {
         requires known { self.now.pick.thread.0 < length program.now.threads }
         requires within { index < (thread_def program.now self.now.pick.thread.0).log }
         requires stamp { self.now.stamp + 1 < 2 ^ 32 }
-        ensures step { access_of result ≡ places.Store (places.Log self.now.pick.thread.0 index) ((self.now.stamp + 1) * 2 ^ 32 + value) }
+        ensures step { access_of result ≡ places.Store (places.Log self.now.pick.thread.0 index) (held.output_word (machine.output_of self.now value)) }
         ensures there { IsOnBoard program.now (places.place_of (access_of result)) }
     {
         let thread = self.pick.thread;
-        Step::Store(
-            Place::Log { thread, index },
-            (self.stamp + 1) * (1 << 32) + value as u64,
-        )
+        let output = Output {
+            stamp: self.stamp + 1,
+            thread,
+            value,
+        };
+        Step::Store(Place::Log { thread, index }, output_word(output))
     }
 
     // The store that makes all writes current.
@@ -194,17 +248,5 @@ impl TaskMachine {
             slot_of(program, thread, self.pick.position),
             empty(self.pick.position + places),
         )
-    }
-}
-
-// The word of an origin: its kind in bits 56 up, and its numbers.
-fn origin_word(origin: Origin) -> u64
-    requires { FitsOrigin origin }
-    ensures { result ≡ stands.origin_word origin }
-{
-    match origin {
-        Origin::Source { source, count } => (1 << 56) + source.0 as u64 * (1 << 16) + count as u64,
-        Origin::Pipe { pipe, item } => 2 * (1 << 56) + pipe.0 as u64 * (1 << 32) + item as u64,
-        Origin::Timer { timer, deadline } => 3 * (1 << 56) + timer.0 as u64 * (1 << 48) + deadline,
     }
 }

@@ -2,10 +2,11 @@
 
 use crate::fixtures::{joined, read};
 use ink_base::JobAnswer;
-use prog_check::check;
+use prog_check::{Accepted, check};
 use program_text::print_program;
 use std::alloc::Global;
 use std::test::Fail;
+use task_isa::{Lines, Program};
 
 const LOOSE: &str = "[program] # the same program
   thread a priority 01 queue 2 state 1 log 8 expires 5
@@ -68,18 +69,26 @@ jmp L1
 end
 ";
 
+fn accepted(alloc: Global, text: &str) -> Result<Accepted, JobAnswer> {
+    let (program, lines, _) = read(alloc, text)?;
+    check(program, &lines)
+}
+
 // The canonical text of the program of a text.
 fn printed(alloc: Global, text: &str) -> Result<Vec<u8>, JobAnswer> {
-    let (program, lines, _) = read(alloc, text)?;
-    let accepted = check(program, &lines)?;
+    let accepted = accepted(alloc, text)?;
     Ok(print_program(alloc, &accepted)?)
+}
+
+fn is_printed_as(alloc: Global, text: &str, wanted: &str) -> Result<bool, JobAnswer> {
+    let bytes = printed(alloc, text)?;
+    Ok(bytes.as_slice() == wanted.as_bytes())
 }
 
 // Whether the canonical text with the next header behind it is printed as it is.
 fn is_canonical(alloc: Global, text: &str) -> Result<bool, JobAnswer> {
     let whole = joined(alloc, text, "[sensors]\n")?;
-    let bytes = printed(alloc, whole.as_str())?;
-    Ok(bytes.as_slice() == text.as_bytes())
+    is_printed_as(alloc, whole.as_str(), text)
 }
 
 #[test]
@@ -90,8 +99,7 @@ fn a_canonical_text_is_printed_as_it_is(rt: HostRuntime) -> Result<(), Fail> {
 
 #[test]
 fn another_text_of_the_program_is_printed_canonically(rt: HostRuntime) -> Result<(), Fail> {
-    let bytes = printed(rt.alloc(), LOOSE)?;
-    assert_eq!(rt; bytes.as_slice(), PRINTED.as_bytes());
+    assert!(rt; is_printed_as(rt.alloc(), LOOSE, PRINTED)?);
     Ok(())
 }
 
@@ -148,10 +156,14 @@ next x
 end
 ";
 
+fn read_with_header(alloc: Global, text: &str) -> Result<(Program, Lines, u32), JobAnswer> {
+    let whole = joined(alloc, text, "[sensors]\n")?;
+    read(alloc, whole.as_str())
+}
+
 // How many words stand before the next header, and whether threads and tasks stand in their lines.
 fn has_its_lines(alloc: Global, text: &str) -> Result<(u32, bool), JobAnswer> {
-    let whole = joined(alloc, text, "[sensors]\n")?;
-    let (_, lines, next) = read(alloc, whole.as_str())?;
+    let (_, lines, next) = read_with_header(alloc, text)?;
     let threads = lines.threads.as_slice() == [2, 3].as_slice();
     let tasks = lines.tasks.as_slice() == [10, 44, 48].as_slice();
     Ok((next, threads && tasks))

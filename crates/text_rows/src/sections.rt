@@ -1,7 +1,7 @@
 //! Sections `[program]`: what is read of them, and the first fault of others (task_asm).
 
 use crate::fixtures::{Case, first_wrong, joined, read};
-use ink_base::{Cause, NoMemory, ThreadId};
+use ink_base::{Cause, JobAnswer, NoMemory, ThreadId};
 use std::alloc::Global;
 use std::test::Fail;
 use task_isa::{Instr, Lines, Program, Reg, ThreadDef, encode};
@@ -78,13 +78,21 @@ fn is_sum(code: &[Instr]) -> bool {
     is_same(code, &wanted)
 }
 
+// The number of the job's words up to the readings, and whether its program has its thread, its task and the code.
+fn parts(alloc: Global) -> Result<(u32, bool, bool, bool), JobAnswer> {
+    let (program, _, next) = read(alloc, JOB)?;
+    let code_is = is_sum(code(&program, 0));
+    Ok((
+        next,
+        has_its_thread(&program),
+        has_its_task(&program),
+        code_is,
+    ))
+}
+
 #[test]
 fn a_program_is_read(rt: HostRuntime) -> Result<(), Fail> {
-    let (program, _, next) = read(rt.alloc(), JOB)?;
-    assert_eq!(rt; next, 38);
-    assert!(rt; has_its_thread(&program));
-    assert!(rt; has_its_task(&program));
-    assert!(rt; is_sum(code(&program, 0)));
+    assert_eq!(rt; parts(rt.alloc())?, (38, true, true, true));
     Ok(())
 }
 
@@ -99,10 +107,14 @@ fn are_its_lines(lines: &Lines) -> bool {
         && lines.tasks.as_slice() == [4].as_slice()
 }
 
+fn has_its_lines(alloc: Global) -> Result<bool, JobAnswer> {
+    let (_, lines, _) = read(alloc, JOB)?;
+    Ok(are_its_lines(&lines))
+}
+
 #[test]
 fn parts_have_their_lines(rt: HostRuntime) -> Result<(), Fail> {
-    let (_, lines, _) = read(rt.alloc(), JOB)?;
-    assert!(rt; are_its_lines(&lines));
+    assert!(rt; has_its_lines(rt.alloc())?);
     Ok(())
 }
 
@@ -116,10 +128,9 @@ task x thread a limit 4096
 ";
 
 // The program of the forms, with this behind them.
-fn with_forms(alloc: Global, text: &str) -> Result<Program, Fail> {
+fn with_forms(alloc: Global, text: &str) -> Result<(Program, Lines, u32), JobAnswer> {
     let whole = joined(alloc, FORMS, text)?;
-    let (program, _, _) = read(alloc, whole.as_str())?;
-    Ok(program)
+    read(alloc, whole.as_str())
 }
 
 fn are_threads(program: &Program) -> bool {
@@ -143,12 +154,19 @@ fn are_timers(program: &Program) -> bool {
     }
 }
 
+// Whether the threads, the pipe and the timers of the forms are read.
+fn are_forms(alloc: Global) -> Result<(bool, bool, bool), JobAnswer> {
+    let (program, _, _) = with_forms(alloc, "end\n[sensors]\n")?;
+    Ok((
+        are_threads(&program),
+        is_pipe(&program),
+        are_timers(&program),
+    ))
+}
+
 #[test]
 fn expires_pipes_and_timers_are_read(rt: HostRuntime) -> Result<(), Fail> {
-    let program = with_forms(rt.alloc(), "end\n[sensors]\n")?;
-    assert!(rt; are_threads(&program));
-    assert!(rt; is_pipe(&program));
-    assert!(rt; are_timers(&program));
+    assert_eq!(rt; are_forms(rt.alloc())?, (true, true, true));
     Ok(())
 }
 
@@ -185,10 +203,14 @@ fn is_arithmetic(code: &[Instr]) -> bool {
     is_same(code, &wanted)
 }
 
+fn has_arithmetic(alloc: Global) -> Result<bool, JobAnswer> {
+    let (program, _, _) = with_forms(alloc, ARITHMETIC)?;
+    Ok(is_arithmetic(code(&program, 0)))
+}
+
 #[test]
 fn instructions_with_three_registers_are_read(rt: HostRuntime) -> Result<(), Fail> {
-    let program = with_forms(rt.alloc(), ARITHMETIC)?;
-    assert!(rt; is_arithmetic(code(&program, 0)));
+    assert!(rt; has_arithmetic(rt.alloc())?);
     Ok(())
 }
 
@@ -217,10 +239,14 @@ fn are_effects(code: &[Instr]) -> bool {
     is_same(code, &wanted)
 }
 
+fn has_effects(alloc: Global) -> Result<bool, JobAnswer> {
+    let (program, _, _) = with_forms(alloc, EFFECTS)?;
+    Ok(are_effects(code(&program, 0)))
+}
+
 #[test]
 fn instructions_with_effects_are_read(rt: HostRuntime) -> Result<(), Fail> {
-    let program = with_forms(rt.alloc(), EFFECTS)?;
-    assert!(rt; are_effects(code(&program, 0)));
+    assert!(rt; has_effects(rt.alloc())?);
     Ok(())
 }
 
@@ -249,12 +275,16 @@ fn are_targets(code: &[Instr]) -> bool {
     is_same(code, &wanted)
 }
 
+// The number of tasks, and whether each of the two has its targets.
+fn targets(alloc: Global) -> Result<(usize, bool, bool), JobAnswer> {
+    let (program, _, _) = with_forms(alloc, TARGETS)?;
+    let back = is_same(code(&program, 1), &[Instr::Next { i: 0 }]);
+    Ok((program.tasks.len(), are_targets(code(&program, 0)), back))
+}
+
 #[test]
 fn targets_are_found_in_both_directions(rt: HostRuntime) -> Result<(), Fail> {
-    let program = with_forms(rt.alloc(), TARGETS)?;
-    assert_eq!(rt; program.tasks.len(), 2);
-    assert!(rt; are_targets(code(&program, 0)));
-    assert!(rt; is_same(code(&program, 1), &[Instr::Next { i: 0 }]));
+    assert_eq!(rt; targets(rt.alloc())?, (2, true, true));
     Ok(())
 }
 
@@ -468,16 +498,21 @@ const BEHIND_4096: &[Case] = &[
     ("none", 4102, Cause::UnknownWord),
 ];
 
-// Whether a text is read with this behind it.
-fn is_read(alloc: Global, text: &str, behind: &str) -> Result<bool, NoMemory> {
-    let whole = joined(alloc, text, behind)?;
+// Whether the two tasks are read.
+fn is_full_task_read(alloc: Global) -> Result<bool, NoMemory> {
+    let text = full_task(alloc)?;
+    let whole = joined(alloc, text.as_str(), "end\n[sensors]\n")?;
     Ok(read(alloc, whole.as_str()).is_ok())
+}
+
+fn first_wrong_behind(alloc: Global) -> Result<Option<usize>, NoMemory> {
+    let text = full_task(alloc)?;
+    first_wrong(alloc, text.as_str(), BEHIND_4096)
 }
 
 #[test]
 fn instructions_are_counted_over_all_tasks(rt: HostRuntime) -> Result<(), Fail> {
-    let text = full_task(rt.alloc())?;
-    assert!(rt; is_read(rt.alloc(), text.as_str(), "end\n[sensors]\n")?);
-    assert_eq!(rt; first_wrong(rt.alloc(), text.as_str(), BEHIND_4096)?, None);
+    assert!(rt; is_full_task_read(rt.alloc())?);
+    assert_eq!(rt; first_wrong_behind(rt.alloc())?, None);
     Ok(())
 }

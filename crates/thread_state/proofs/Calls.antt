@@ -12,19 +12,19 @@ use Rattle.thread_state.specs.Calls.{Call, Prepare, Copy, Write, Discard, CanCal
 use Rattle.thread_state.proofs.Pages.{copy_only, copy_committed, copy_working, agree_more, put_committed, put_working, dirty_put_only, no_writes_words, commit_committed}
 
 -- the registers know how far the copying is
-abbrev IsCopying : Memory → ℕ → Buffer → Option ℕ → Type 0
+abbrev pub IsCopying : Memory → ℕ → Buffer → Option ℕ → Type 0
 IsCopying m t b None = b.copying ≡ Loading 0
 IsCopying m t b (Some page) = (bit_at b.dirty page ≡ 0) × IsCopied m t b.commit page b.copying
 
 -- what holds between calls
-record IsGoing (t : ℕ) (start m : Memory) (b : Buffer) (under : Option ℕ) (contents : ℕ → ℕ) : Type 0 where
-  commit : b.commit ≡ m (Commit t)
-  kept : (w : ℕ) → committed m t w ≡ committed start t w
-  holds : (w : ℕ) → working m t b w ≡ contents w
-  outside : (q : Place) → IsOutside t q → m q ≡ start q
-  copying : IsCopying m t b under
+pub record IsGoing (t : ℕ) (start m : Memory) (b : Buffer) (under : Option ℕ) (contents : ℕ → ℕ) : Type 0 where
+  pub commit : b.commit ≡ m (Commit t)
+  pub kept : (w : ℕ) → committed m t w ≡ committed start t w
+  pub holds : (w : ℕ) → working m t b w ≡ contents w
+  pub outside : (q : Place) → IsOutside t q → m q ≡ start q
+  pub copying : IsCopying m t b under
 
-abbrev Goes : ℕ → Memory → Memory → Writes → (ℕ → ℕ) → Type 0
+abbrev pub Goes : ℕ → Memory → Memory → Writes → (ℕ → ℕ) → Type 0
 Goes t start m w contents = IsGoing t start m w.buffer w.under_way contents
 
 -- the next access of a copying
@@ -109,20 +109,30 @@ call_goes t start m block b (Some page) contents (Write word value) can g = cc
 call_goes t start m block b None contents Discard can g = discard_goes t start m b contents g
 call_goes t start m block b (Some page) contents Discard can g = cc
 
-calls_leave : (t : ℕ) (start m : Memory) (w : Writes) (contents : ℕ → ℕ) (calls : List Call) → CanCallAll t m w calls → Goes t start m w contents →
-    IsLeft t start (memory_after_all t m w calls) (registers_after_all t m w calls) (last_written (committed start t) contents calls)
-calls_leave t start m w contents [] can g =
-    record {
-      kept = g.kept;
-      reads = g.holds;
-      commits = λ word. commit_committed m t (working_mask w.buffer) word ∙ g.holds word;
-      outside = g.outside;
-    }
-calls_leave t start m w contents (call ∷ calls) can g =
-    calls_leave t start (memory_after t m w call) (registers_after t m w call) (contents_after (committed start t) contents call) calls can.1
+-- any calls keep it
+pub calls_go : (t : ℕ) (start m : Memory) (w : Writes) (contents : ℕ → ℕ) (calls : List Call) → CanCallAll t m w calls → Goes t start m w contents →
+    Goes t start (memory_after_all t m w calls) (registers_after_all t m w calls) (last_written (committed start t) contents calls)
+calls_go t start m w contents [] can g = g
+calls_go t start m w contents (call ∷ calls) can g =
+    calls_go t start (memory_after t m w call) (registers_after t m w call) (contents_after (committed start t) contents call) calls can.1
     (call_goes t start m w.block w.buffer w.under_way contents call can.0 g)
 
+goes_left : (t : ℕ) (start m : Memory) (w : Writes) (contents : ℕ → ℕ) → Goes t start m w contents → IsLeft t start m w contents
+goes_left t start m w contents g = record {
+  kept = g.kept;
+  reads = g.holds;
+  commits = λ word. commit_committed m t (working_mask w.buffer) word ∙ g.holds word;
+  outside = g.outside;
+}
+
+pub calls_leave : (t : ℕ) (start m : Memory) (w : Writes) (contents : ℕ → ℕ) (calls : List Call) → CanCallAll t m w calls → Goes t start m w contents →
+    IsLeft t start (memory_after_all t m w calls) (registers_after_all t m w calls) (last_written (committed start t) contents calls)
+calls_leave t start m w contents calls can g =
+    goes_left t start (memory_after_all t m w calls) (registers_after_all t m w calls) (last_written (committed start t) contents calls) (calls_go t start m w contents calls can g)
+
+-- before any call
+pub begun_goes : (t : ℕ) (block : Block) (m : Memory) → Goes t m m (begun block (m (Commit t))) (committed m t)
+begun_goes t block m = record { commit = refl; kept = λ w. refl; holds = no_writes_words m t; outside = λ q out. refl; copying = refl }
+
 pub one_store_commits : OneStoreCommits
-one_store_commits t block m calls can =
-    calls_leave t m m (begun block (m (Commit t))) (committed m t) calls can
-    (record { commit = refl; kept = λ w. refl; holds = no_writes_words m t; outside = λ q out. refl; copying = refl })
+one_store_commits t block m calls can = calls_leave t m m (begun block (m (Commit t))) (committed m t) calls can (begun_goes t block m)

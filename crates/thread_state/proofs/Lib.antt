@@ -2,3 +2,4 @@ pub mod Pages
 pub mod Masks
 pub mod Calls
 pub mod Sixteen
+pub mod Puts

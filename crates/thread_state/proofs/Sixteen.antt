@@ -7,11 +7,12 @@ use Rattle.thread_state.specs.Pages.{Copying, Loading, Storing, is_dirty}
 use Rattle.thread_state.specs.Writes.{Writes}
 use Rattle.thread_state.specs.Calls.{taken_all, resting, SixteenCopy}
 
-abbrev under : Block → ℕ → ℕ → ℕ → Copying → Writes
+-- a copying under way
+abbrev pub under : Block → ℕ → ℕ → ℕ → Copying → Writes
 under block commit dirty page x = record { block = block; buffer = record { commit = commit; dirty = dirty; copying = x }; under_way = Some page }
 
 -- how many accesses are left
-abbrev left : Copying → ℕ
+abbrev pub left : Copying → ℕ
 left (Loading k) = 16 - 2 * k
 left (Storing k v) = 15 - 2 * k
 

@@ -4,16 +4,17 @@ use Rattle.std.specs.Int.{bit_at}
 use Rattle.fram_words.specs.declared.access.Access as declared
 use Rattle.fram_words.specs.declared.access.Access.TheVariants as fram
 use Rattle.fram_words.specs.Places.{Place, Commit, Page, Access, Load, Store, Exchange, Add}
+use Rattle.fram_words.specs.Header.{words as header_words}
 use Rattle.thread_state.specs.declared.block.Block.{Block}
 
 -- the number of pages
 abbrev pub pages_of : Block → ℕ
 pages_of block = (block.words + 7) / 8
 
--- a header of 48 words and at most 256 words of state, and each of its places has an address
+-- a header and at most 256 words of state, and each of its places has an address
 pub record IsPlaced (block : Block) : Type 0 where
-  pub header : 48 ≤ block.words
-  pub state : block.words ≤ 304
+  pub header : header_words ≤ block.words
+  pub state : block.words ≤ header_words + 256
   pub pages : block.first + 16 * pages_of block ≤ 2 ^ 32
 
 -- a commit word of the block has no bit at or above the number of pages

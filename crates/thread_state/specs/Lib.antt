@@ -4,3 +4,4 @@ pub mod Buffers
 pub mod Steps
 pub mod Writes
 pub mod Calls
+pub mod Puts

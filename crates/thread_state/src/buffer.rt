@@ -2,13 +2,14 @@
 
 ghost use Rattle.std.specs.Int.{bit_at};
 ghost use Rattle.std.specs.Prelude.{◌≡◌, ◌/◌, ◌%◌, ◌<◌};
+ghost use Rattle.fram_words.specs.Header.{word_of, IsHeader};
 ghost use Rattle.fram_words.specs.Steps.{access_of, place_of};
 ghost use Rattle.thread_state.specs.Buffers.{goes_on};
 ghost use Rattle.thread_state.specs.Pages as pages;
 ghost use Rattle.thread_state.specs.Steps.{IsOnPage, IsWordOfPage};
 
 use crate::copying::Copying;
-use fram_words::{Place, Step};
+use fram_words::{Header, Place, Step};
 use ink_base::ThreadId;
 use std::marker::Model;
 
@@ -175,6 +176,16 @@ pub fn place_in(thread: ThreadId, mask: u64, word: u32) -> Place
         copy: copy_of(mask, word / 8),
         word: word % 8,
     }
+}
+
+/// A word of a thread's header in the copies that a mask names.
+#[inline(always)]
+pub fn header_in(thread: ThreadId, mask: u64, header: Header) -> Place
+    requires { IsHeader header }
+    ensures place { place_of result ≡ pages.place_in thread.0 mask (word_of header) }
+    ensures on { IsWordOfPage thread.0 (word_of header / 8) (place_of result) }
+{
+    place_in(thread, mask, header.word())
 }
 
 // The copy of a page that a mask names.

@@ -8,6 +8,6 @@ mod laws;
 mod machine;
 
 pub use block::{Block, committed_at};
-pub use buffer::{Buffer, place_in};
+pub use buffer::{Buffer, header_in, place_in};
 pub use laws::two_copies;
 pub use machine::BufferMachine;

@@ -3,7 +3,8 @@ use Rattle.std.proofs.Common.{◌≡◌, ℕ, ◌+◌, ◌*◌, ◌<◌, List, l
 use Rattle.std.proofs.lemmas.List.{get_or_default}
 use Rattle.task_isa.specs.declared.program.TimerDef.{TimerDef}
 use Rattle.prog_check.specs.Lookup.{no_timer_def}
-use Rattle.ink_layout.specs.Image.{first_due, timed_word}
+use Rattle.fram_words.specs.Held.{due_word}
+use Rattle.ink_layout.specs.Image.{timed_word}
 use Rattle.ink_layout.specs.Stages.{with_blocks, put_word}
 use Rattle.ink_layout.proofs.Images.{holds_as, blocks_next}
 use Rattle.ink_layout.proofs.image.start_timer.Goals as goal
@@ -16,12 +17,15 @@ same_timer timers slice j timer e lt is =
 pub returns : goal.returns
 returns c =
     let is = same_timer c.args.program.now.timers c.as_slice.result.now c.args.j c.index-as_slice-j.result c.as_slice.ensures c.requires.known c.index-as_slice-j.is in
+    let due_at : ℕ = c.word-due_at.result in
+    let period_at : ℕ = c.word-period_at.result in
     holds_as c.args.program.now c.put_both-2.new.fram
-    (with_blocks c.args.program.now (put_word (put_word (timed_word c.args.program.now c.args.j) c.index-as_slice-j.result.thread.0 (26 + 2 * c.args.j) c.due_word-due.result) c.index-as_slice-j.result.thread.0 (26 + 2 * c.args.j + 1) c.index-as_slice-j.result.period))
+    (with_blocks c.args.program.now (put_word (put_word (timed_word c.args.program.now c.args.j) c.index-as_slice-j.result.thread.0 due_at c.first_due-due.result) c.index-as_slice-j.result.thread.0 period_at c.index-as_slice-j.result.period))
     (with_blocks c.args.program.now (timed_word c.args.program.now (c.args.j + 1)))
-    (c.put_both-2.ensures.stored (put_word (timed_word c.args.program.now c.args.j) c.index-as_slice-j.result.thread.0 (26 + 2 * c.args.j) c.due_word-due.result)
+    (c.put_both-2.ensures.stored (put_word (timed_word c.args.program.now c.args.j) c.index-as_slice-j.result.thread.0 due_at c.first_due-due.result)
     (c.put_both.ensures.stored (timed_word c.args.program.now c.args.j) c.requires.before))
-    (blocks_next c.args.program.now c.args.j c.index-as_slice-j.result.thread.0 c.due_word-due.result c.index-as_slice-j.result.period
+    (blocks_next c.args.program.now c.args.j c.index-as_slice-j.result.thread.0 due_at period_at c.first_due-due.result c.index-as_slice-j.result.period
+    c.word-due_at.ensures.number c.word-period_at.ensures.number
     (ap (λ (timer : TimerDef). timer.thread.0) is)
-    (c.due_word-due.ensures ∙ ap (λ (timer : TimerDef). first_due timer.due) is)
+    (c.first_due-due.ensures ∙ ap (λ (timer : TimerDef). due_word timer.due) is)
     (ap (λ (timer : TimerDef). timer.period) is))

@@ -1,7 +1,6 @@
 use Rattle.std.proofs.Common.{ℕ, List, length, sym, ◌∙◌, subst}
 use Rattle.ink_layout.specs.Image.{IsFirstImage}
 use Rattle.job_parts.specs.Job.{JobParts, IsJob}
-use Rattle.task_run.specs.Knows.{HasCode}
 use Rattle.kernel_core.specs.Board.{first_board}
 use Rattle.kernel_core.specs.Core.{setup_of}
 use Rattle.kernel_core.proofs.start.prepare.Goals as goal
@@ -21,6 +20,3 @@ returns-clause-board c =
 
 pub returns-clause-limits : goal.returns-clause-limits
 returns-clause-limits c = subst (λ (z : JobParts). IsJob z) c.in_ok-start.ensures.job c.in_ok-start.ensures.limits
-
-pub returns-clause-code : goal.returns-clause-code
-returns-clause-code c = subst (λ (z : JobParts). HasCode z.program) c.in_ok-start.ensures.job c.begin-core.ensures.code

@@ -1,6 +1,7 @@
-use Rattle.std.proofs.Common.{rules, ◌≡◌, true, sym, subst}
+use Rattle.std.proofs.Common.{sym, subst}
 use Rattle.prog_check.specs.Accepted.{IsAccepted}
 use Rattle.never_cut.specs.Replaying.{model_of}
+use Rattle.never_cut.specs.Replay.{TellsEntry}
 use Rattle.never_cut.specs.Start.{CanStart}
 use Rattle.never_cut.proofs.Replays.{replays_none, replays_more, replayed}
 use Rattle.never_cut.proofs.Settled.{readings_in_order}
@@ -17,9 +18,9 @@ loop-n-init c =
 pub loop-n-preserved : goal.loop-n-preserved
 loop-n-preserved c =
     let accepted : IsAccepted c.program-program.result.now = subst IsAccepted (sym c.program-program.ensures.same) c.program-program.ensures.accepted in
-    let may : c.may.result ≡ true = search rules in
-    replays_more c.program-program.result.now c.args.readings.now (model_of c.args.first) c.args.entries.now c.loop-n.n (model_of c.loop-n.state) (model_of c.apply.new.self) _ accepted
-    c.requires.readings.few c.requires.few c.loop-n.invariant c.loop-n-test.true (c.may.ensures.0 may) c.in_ok-apply.ensures
+    let told = subst (TellsEntry c.program-program.result.now c.args.readings.now (model_of c.loop-n.state) _ (model_of c.step.new.self)) c.in-Made.is c.in_ok-step.ensures in
+    replays_more c.program-program.result.now c.args.readings.now (model_of c.args.first) c.args.entries.now c.loop-n.n (model_of c.loop-n.state) (model_of c.step.new.self) _ accepted
+    c.requires.readings.few c.requires.few c.loop-n.invariant c.loop-n-test.true told.0 told.1
 
 pub returns-clause-in_order : goal.returns-clause-in_order
 returns-clause-in_order c =

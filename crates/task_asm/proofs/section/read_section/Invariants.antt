@@ -1,7 +1,7 @@
 use Rattle.std.proofs.Common.{◌≡◌, length}
 use Rattle.ink_base.specs.TokenLines.{token_lines}
 use Rattle.ink_base.specs.Suffix.{IsSuffix}
-use Rattle.task_asm.specs.Place.{HasPlace}
+use Rattle.task_lines.specs.Place.{HasPlace}
 use Rattle.task_asm.specs.Section.{section_in, empty_draft}
 use Rattle.task_asm.proofs.section.read_section.Given as goal
 

@@ -1,6 +1,6 @@
 use Rattle.std.proofs.Common.{◌+◌, ◌<◌, ◌≤◌, List, length, get_or, sym, ap, ◌∙◌, subst, arith}
 use Rattle.kernel_core.specs.Record.{begun}
-use Rattle.kernel_core.specs.Recorded.{Recorded}
+use Rattle.kernel_core.specs.kept.Recorded.{Recorded, KeepsRoom}
 use Rattle.kernel_core.specs.Board.{cut}
 use Rattle.job_parts.specs.declared.charge.Charge.{Charge}
 use Rattle.job_parts.specs.Job.{item_turns}
@@ -24,7 +24,7 @@ invariant_of-self c = (
   core_of _ _ _ _ _ _ c.self.invariant.1 (subst (λ (z : View). z.board.begun < length z.job.charges) (sym c.self.view_is) c.requires) c.args.off (omega arith) c.perform-self-inside.new.self c.boot-self-inside.result c.lose_rows.new.pushers.items c.begin.new.self c.turns_in-self-inside.result
       c.perform-self-inside.ensures.after c.boot-self-inside.ensures.begun c.lose_rows.ensures
       (c.begin.ensures.charge ∙ ap (λ (z : Recorded). begun c.args.off z.charge) (at_next _ _ _ _ _ _ c.self.invariant.1 (subst (λ (z : View). z.board.begun < length z.job.charges) (sym c.self.view_is) c.requires) c.args.off (omega arith) c.index_mut.result.now c.index_mut.ensures.value))
-      (subst (λ (z : Recorded). z.spare ≤ c.begin.new.self.spare + 1) (at_next _ _ _ _ _ _ c.self.invariant.1 (subst (λ (z : View). z.board.begun < length z.job.charges) (sym c.self.view_is) c.requires) c.args.off (omega arith) c.index_mut.result.now c.index_mut.ensures.value) c.begin.ensures.spare)
+      (subst (λ (z : Recorded). KeepsRoom z c.begin.new.self) (at_next _ _ _ _ _ _ c.self.invariant.1 (subst (λ (z : View). z.board.begun < length z.job.charges) (sym c.self.view_is) c.requires) c.args.off (omega arith) c.index_mut.result.now c.index_mut.ensures.value) (record { spare = c.begin.ensures.spare; capacity = c.begin.ensures.capacity }))
       (c.turns_in-self-inside.ensures.turns ∙ ap (λ (l : List Charge). item_turns (get_or l c.self.inside.begun no_charge).items) c.as_slice.ensures),
 )
 

@@ -1,6 +1,6 @@
 use Rattle.std.proofs.Common.{◌+◌, ◌<◌, ◌≤◌, sym, ap, ◌∙◌, subst}
 use Rattle.kernel_core.specs.Record.{with_tick}
-use Rattle.kernel_core.specs.Recorded.{Recorded}
+use Rattle.kernel_core.specs.kept.Recorded.{Recorded, KeepsRoom}
 use Rattle.kernel_core.specs.Board.{clock_turn}
 use Rattle.kernel_core.specs.Made.{clock_made}
 use Rattle.kernel_core.specs.Core.{View, setup_of}
@@ -32,8 +32,8 @@ invariant_of-self c = (
       c.perform-word.ensures.after
       (c.note_tick.ensures.charge ∙ ap (λ (z : Recorded). with_tick z.charge)
       (at_hand _ _ _ _ _ _ c.self.invariant.1 (subst (λ (z : View). 0 < z.board.begun) (sym c.self.view_is) c.requires.begun) c.index_mut.result.now c.index_mut.ensures.value))
-      (subst (λ (z : Recorded). z.spare ≤ c.note_tick.new.self.spare + 1)
-      (at_hand _ _ _ _ _ _ c.self.invariant.1 (subst (λ (z : View). 0 < z.board.begun) (sym c.self.view_is) c.requires.begun) c.index_mut.result.now c.index_mut.ensures.value) c.note_tick.ensures.spare),
+      (subst (λ (z : Recorded). KeepsRoom z c.note_tick.new.self)
+      (at_hand _ _ _ _ _ _ c.self.invariant.1 (subst (λ (z : View). 0 < z.board.begun) (sym c.self.view_is) c.requires.begun) c.index_mut.result.now c.index_mut.ensures.value) (record { spare = c.note_tick.ensures.spare; capacity = c.note_tick.ensures.capacity })),
 )
 
 pub returns-clause-board : goal.returns-clause-board

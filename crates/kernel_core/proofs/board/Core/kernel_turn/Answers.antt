@@ -1,7 +1,7 @@
 use Rattle.std.proofs.Common.{◌≡◌, ◌+◌, ◌<◌, ◌≤◌, sym, ap, ◌∙◌, subst}
 use Rattle.ink_layout.specs.Points.{entry_of_point}
 use Rattle.kernel_core.specs.Record.{with_kernel}
-use Rattle.kernel_core.specs.Recorded.{Recorded}
+use Rattle.kernel_core.specs.kept.Recorded.{Recorded, KeepsRoom}
 use Rattle.kernel_core.specs.Board.{kernel_turn}
 use Rattle.kernel_core.specs.Made.{kernel_made}
 use Rattle.kernel_core.specs.Core.{View, setup_of}
@@ -28,8 +28,8 @@ note_kernel-requires-clause-spare c = has_spare _ _ _ _ _ _ c.self.invariant.1 (
 pub note_kernel-requires-clause-steps : goal.note_kernel-requires-clause-steps
 note_kernel-requires-clause-steps c = kernel_counts _ _ _ _ _ _ c.self.invariant.1 (subst (λ (z : View). 0 < z.board.begun) (sym c.self.view_is) c.requires.begun) c.index_mut.result.now c.index_mut.ensures.value (subst (λ (z : View). 0 < z.room) (sym c.self.view_is) c.requires.room)
 
-pub take-point-requires : goal.take-point-requires
-take-point-requires c =
+pub take-requires : goal.take-requires
+take-requires c =
     can_take _ _ _ _ _ _ c.self.invariant.1 c.want-access.result c.perform-word.result (subst (λ (z : View). 0 < z.room) (sym c.self.view_is) c.requires.room)
     c.want-access.ensures.access
     c.perform-word.ensures.answer
@@ -37,18 +37,18 @@ take-point-requires c =
 pub invariant_of-self : goal.invariant_of-self
 invariant_of-self c = (
   c.self.invariant.0,
-  kernel_turn_core _ _ _ _ _ _ c.self.invariant.1 c.want-access.result c.perform-word.result c.perform-word.new.self c.take-point.new.self c.entry_of_point-entry.result c.note_kernel.new.self
+  kernel_turn_core _ _ _ _ _ _ c.self.invariant.1 c.want-access.result c.perform-word.result c.perform-word.new.self c.take.new.self c.entry_of_point-entry.result c.note_kernel.new.self
       (subst (λ (z : View). 0 < z.board.begun) (sym c.self.view_is) c.requires.begun)
       (subst (λ (z : View). 0 < z.room) (sym c.self.view_is) c.requires.room)
       c.want-access.ensures.access
       c.perform-word.ensures.answer
       c.perform-word.ensures.after
-      c.take-point.ensures.registers
-      (c.entry_of_point-entry.ensures ∙ ap (λ z. entry_of_point z) c.take-point.ensures.point)
+      c.take.ensures.registers
+      (c.entry_of_point-entry.ensures ∙ ap (λ z. entry_of_point z) c.point-point.ensures _)
       (c.note_kernel.ensures.charge ∙ ap (λ (z : Recorded). with_kernel c.entry_of_point-entry.result z.charge)
       (at_hand _ _ _ _ _ _ c.self.invariant.1 (subst (λ (z : View). 0 < z.board.begun) (sym c.self.view_is) c.requires.begun) c.index_mut.result.now c.index_mut.ensures.value))
-      (subst (λ (z : Recorded). z.spare ≤ c.note_kernel.new.self.spare + 1)
-      (at_hand _ _ _ _ _ _ c.self.invariant.1 (subst (λ (z : View). 0 < z.board.begun) (sym c.self.view_is) c.requires.begun) c.index_mut.result.now c.index_mut.ensures.value) c.note_kernel.ensures.spare),
+      (subst (λ (z : Recorded). KeepsRoom z c.note_kernel.new.self)
+      (at_hand _ _ _ _ _ _ c.self.invariant.1 (subst (λ (z : View). 0 < z.board.begun) (sym c.self.view_is) c.requires.begun) c.index_mut.result.now c.index_mut.ensures.value) (record { spare = c.note_kernel.ensures.spare; capacity = c.note_kernel.ensures.capacity })),
 )
 
 pub returns-clause-board : goal.returns-clause-board
@@ -57,10 +57,10 @@ returns-clause-board c =
     (subst (λ (z : View). 0 < z.room) (sym c.self.view_is) c.requires.room)
     c.want-access.ensures.access
     c.perform-word.ensures.answer
-    c.perform-word.new.self c.take-point.new.self c.entry_of_point-entry.result c.note_kernel.new.self
+    c.perform-word.new.self c.take.new.self c.entry_of_point-entry.result c.note_kernel.new.self
     c.perform-word.ensures.after
-    c.take-point.ensures.registers
-    (c.entry_of_point-entry.ensures ∙ ap (λ z. entry_of_point z) c.take-point.ensures.point)
+    c.take.ensures.registers
+    (c.entry_of_point-entry.ensures ∙ ap (λ z. entry_of_point z) c.point-point.ensures _)
     (c.note_kernel.ensures.charge ∙ ap (λ (z : Recorded). with_kernel c.entry_of_point-entry.result z.charge)
     (at_hand _ _ _ _ _ _ c.self.invariant.1 (subst (λ (z : View). 0 < z.board.begun) (sym c.self.view_is) c.requires.begun) c.index_mut.result.now c.index_mut.ensures.value))
     ∙ ap (λ (z : View). kernel_turn (setup_of z.job) z.board) c.self.view_is
@@ -72,5 +72,5 @@ returns-clause-made c =
     c.want-access.ensures.access
     c.perform-word.ensures.answer
     c.entry_of_point-entry.result
-    (c.entry_of_point-entry.ensures ∙ ap (λ z. entry_of_point z) c.take-point.ensures.point)
+    (c.entry_of_point-entry.ensures ∙ ap (λ z. entry_of_point z) c.point-point.ensures _)
     ∙ ap (λ (z : View). kernel_made (setup_of z.job) z.board) c.self.view_is

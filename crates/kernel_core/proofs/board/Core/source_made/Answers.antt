@@ -2,7 +2,7 @@ use Rattle.std.proofs.Common.{◌≡◌, ℕ, ◌+◌, ◌<◌, ◌≤◌, List,
 use Rattle.push_core.specs.Table.{IsFew, IsLeft, IsRowFor, IsAnswer, take_of}
 use Rattle.never_cut.specs.Entries.{readings_of}
 use Rattle.kernel_core.specs.Record.{with_source}
-use Rattle.kernel_core.specs.Recorded.{Recorded}
+use Rattle.kernel_core.specs.kept.Recorded.{Recorded, KeepsRoom}
 use Rattle.kernel_core.specs.Board.{row_of, source_access, source_made}
 use Rattle.kernel_core.specs.Made.{access_made}
 use Rattle.kernel_core.specs.Core.{View, setup_of}
@@ -51,7 +51,7 @@ invariant_of-self c = (
       (subst (λ (z : List ℕ). c.take-point.new.self.row ≡ take_of c.index_mut.result.now.port (length z) c.index_mut.result.now.row c.perform-word.result) c.readings_at-readings.ensures c.take-point.ensures.row)
       c.take-point.ensures.point c.entry_of_source-entry.ensures
       (c.note_source.ensures.charge ∙ ap (λ (z : Recorded). with_source c.args.source.0 c.entry_of_source-entry.result z.charge) (at_hand _ _ _ _ _ _ c.self.invariant.1 (subst (λ (z : View). 0 < z.board.begun) (sym c.self.view_is) c.requires.begun) c.index_mut-2.result.now c.index_mut-2.ensures.value))
-      (subst (λ (z : Recorded). z.spare ≤ c.note_source.new.self.spare + 1) (at_hand _ _ _ _ _ _ c.self.invariant.1 (subst (λ (z : View). 0 < z.board.begun) (sym c.self.view_is) c.requires.begun) c.index_mut-2.result.now c.index_mut-2.ensures.value) c.note_source.ensures.spare),
+      (subst (λ (z : Recorded). KeepsRoom z c.note_source.new.self) (at_hand _ _ _ _ _ _ c.self.invariant.1 (subst (λ (z : View). 0 < z.board.begun) (sym c.self.view_is) c.requires.begun) c.index_mut-2.result.now c.index_mut-2.ensures.value) (record { spare = c.note_source.ensures.spare; capacity = c.note_source.ensures.capacity })),
 )
 
 pub returns-clause-board : goal.returns-clause-board

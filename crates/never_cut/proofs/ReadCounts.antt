@@ -1,0 +1,145 @@
+-- The outputs that are read off an image have stamps of commits, and the counts of an image that isn't worn have room.
+use Rattle.std.proofs.Common.{◌≡◌, inl, inr, ℕ, zero, suc, ◌+◌, ◌-◌, ◌*◌, ◌/◌, ◌%◌, ◌^◌, ◌<◌, ◌≤◌, ◌==◌, Bool, true, false, cond, List, [], ◌∷◌, length, map, get_or, Option, Some, None, refl, sym, ap, ◌∙◌, subst, arith}
+use Rattle.std.specs.Prelude.{All, filter, slice_index}
+use Rattle.std.proofs.lemmas.Bool.{cases_lt, cases_Bool, eq-eqb}
+use Rattle.std.proofs.lemmas.List.{get_or_past, get_or-map}
+use Rattle.std.proofs.lemmas.List.Elements.{All-nil, All-cons, All-head, All-tail}
+use Rattle.ink_base.specs.declared.output.Output.{Output}
+use Rattle.task_isa.specs.declared.program.Program.{Program}
+use Rattle.fram_words.specs.Places.{Memory, Log}
+use Rattle.fram_words.specs.Header as header
+use Rattle.fram_words.specs.Held.{output_word}
+use Rattle.thread_state.specs.Pages.{committed}
+use Rattle.push_core.specs.Table.{greatest_tail}
+use Rattle.push_core.specs.Queue.{published}
+use Rattle.prog_check.specs.Accepted.{IsAccepted}
+use Rattle.prog_check.specs.Lookup.{thread_def, pipe_def}
+use Rattle.never_cut.specs.declared.model.Model.{Model}
+use Rattle.never_cut.specs.declared.thread_model.ThreadModel.{ThreadModel}
+use Rattle.never_cut.specs.declared.pipe_model.PipeModel.{PipeModel}
+use Rattle.never_cut.specs.declared.scan_model.ScanModel.{ScanModel}
+use Rattle.never_cut.specs.State.{thread_of, queue_of, pipe_of, no_thread, no_pipe}
+use Rattle.never_cut.specs.Outputs.{outputs_in}
+use Rattle.never_cut.specs.Commit.{outputs_of}
+use Rattle.never_cut.specs.Laws.{HasStamps}
+use Rattle.never_cut.specs.Stands.{flag}
+use Rattle.never_cut.specs.Within.{is_scanning, HasRoomFor, LastsThread, Lasts}
+use Rattle.never_cut.specs.ReadOff.{IsOutputOf, IsReadOff}
+use Rattle.never_cut.specs.Image.{IsImage, stamp_at, taken_of}
+use Rattle.never_cut.specs.Worn.{IsWorn, ManyCommits, ManyServices, ManyTaken}
+use Rattle.never_cut.proofs.Blocks.{served_word, trapped_word, expired_word, outputs_word, taken_count}
+
+-- a flag counts one at most
+flag_one : (b : Bool) → flag b ≤ 1
+flag_one true = omega arith
+flag_one false = omega arith
+
+-- what holds of each thread's outputs, holds of all of them that are of one of these threads
+each_output : (P : Output → Type 0) (count : ℕ) (outputs : List Output) → All (λ (o : Output). o.thread.0 < count) outputs →
+    ((t n : ℕ) (d : Output) → t < count → n < length (outputs_in t outputs) → P (get_or (outputs_in t outputs) n d)) → All P outputs
+each_output P count [] known each = All-nil P
+each_output P count (o ∷ outputs) known each =
+    let is : (o.thread.0 == o.thread.0) ≡ true = eq-eqb o.thread.0 o.thread.0 refl in
+    let own : outputs_in o.thread.0 (o ∷ outputs) ≡ o ∷ outputs_in o.thread.0 outputs = ap (λ (b : Bool). cond b (o ∷ outputs_in o.thread.0 outputs) (outputs_in o.thread.0 outputs)) is in
+    let here : P o = subst (λ (l : List Output). (d : Output) → 0 < length l → P (get_or l 0 d)) own (λ d lt. each o.thread.0 0 d (known 0 o (omega arith)) lt) o (omega arith) in
+    All-cons P o outputs here
+    (each_output P count outputs (λ k d lt. known (suc k) d (omega arith)) (λ t n d lt less. behind t n d (o.thread.0 == t) lt less (each t)))
+  where
+    behind : (t n : ℕ) (d : Output) (b : Bool) → t < count → n < length (outputs_in t outputs) →
+        ((k : ℕ) (e : Output) → t < count → k < length (cond b (o ∷ outputs_in t outputs) (outputs_in t outputs)) → P (get_or (cond b (o ∷ outputs_in t outputs) (outputs_in t outputs)) k e)) →
+        P (get_or (outputs_in t outputs) n d)
+    behind t n d true lt less each = each (suc n) d lt (omega arith)
+    behind t n d false lt less each = each n d lt less
+
+-- the values of a thread's outputs have 32 bits, as all have
+value_kept : (t : ℕ) (o : Output) (outputs : List Output) (b : Bool) → o.value < 2 ^ 32 → All (λ (o : Output). o.value < 2 ^ 32) (outputs_in t outputs) →
+    All (λ (o : Output). o.value < 2 ^ 32) (cond b (o ∷ outputs_in t outputs) (outputs_in t outputs))
+value_kept t o outputs true small rest = All-cons (λ (o : Output). o.value < 2 ^ 32) o (outputs_in t outputs) small rest
+value_kept t o outputs false small rest = rest
+
+values_kept : (program : Program) (t : ℕ) (outputs : List Output) → All (IsOutputOf program) outputs → All (λ (o : Output). o.value < 2 ^ 32) (outputs_in t outputs)
+values_kept program t [] all = All-nil (λ (o : Output). o.value < 2 ^ 32)
+values_kept program t (o ∷ outputs) all =
+    value_kept t o outputs (o.thread.0 == t) (all 0 o (omega arith)).1 (values_kept program t outputs (λ k d lt. all (suc k) d (omega arith)))
+
+module _ (program : Program) (listed : List ℕ) (words : Memory) (m : Model) (accepted : IsAccepted program) (image : IsImage program words)
+    (fresh : ¬ IsWorn program listed words) (read : IsReadOff program words m) where
+  -- an output's stamp is one that its thread has reached
+  stamp_below : (t n : ℕ) (d : Output) → t < length program.threads → n < length (outputs_of m t) → (get_or (outputs_of m t) n d).value < 2 ^ 32 → (get_or (outputs_of m t) n d).stamp ≤ m.commits
+  stamp_below t n d known lt small =
+      let count = outputs_word program words m t known read.private in
+      let h = read.private.threads t known in
+      let o : Output = get_or (outputs_of m t) n d in
+      let word : words (Log t n) ≡ output_word o = h.log n lt ∙ get_or-map output_word (outputs_of m t) n d 0 lt in
+      let most = (image.logs t n known (omega (arith, count))).most in
+      let le = read.private.stamps t known in
+      let stamp : words (Log t n) / 2 ^ 32 ≡ o.stamp = omega (arith, word, small) in
+      omega (arith, most, le, stamp)
+
+  pub read_stamps : HasStamps m
+  read_stamps = record {
+    below = each_output (λ (o : Output). o.stamp ≤ m.commits) (length program.threads) m.outputs (λ k d lt. (read.outputs k d lt).0)
+        (λ t n d known lt. stamp_below t n d known lt (values_kept program t m.outputs read.outputs n d lt));
+    ordered = read.ordered;
+  }
+
+  -- a count of services
+  services_few : (t w : ℕ) → t < length program.threads → header.served ≤ w → w ≤ header.expired → committed words t w < 2 ^ 31
+  services_few t w known from to =
+      elim (cases_lt (committed words t w) (2 ^ 31)) [
+        | inl few ↦ few
+        | inr many ↦ absurd (fresh (ManyServices t w known from to many))
+      ]
+
+  commits_few : m.commits < 2 ^ 31
+  commits_few =
+      elim read.private.newest [
+        | inl none ↦ omega arith
+        | inr made ↦
+            elim (cases_lt (committed words made.0 header.stamp) (2 ^ 31)) [
+              | inl few ↦ omega (arith, made.2, few)
+              | inr many ↦ absurd (fresh (ManyCommits made.0 made.1 many))
+            ]
+      ]
+
+  taken_few : (q : ℕ) → (pipe_of m q).taken < 2 ^ 31
+  taken_few q =
+      elim (cases_lt q (length program.pipes)) [
+        | inl known ↦
+            let pipe = accepted.pipes q known in
+            let is : taken_of program words q ≡ (pipe_of m q).taken = taken_count program words m (pipe_def program q).reader.0 q accepted pipe.reader read.private known refl in
+            elim (cases_lt (taken_of program words q) (2 ^ 31)) [
+              | inl few ↦ omega (arith, is, few)
+              | inr many ↦ absurd (fresh (ManyTaken q known many))
+            ]
+        | inr past ↦
+            let none : (pipe_of m q).taken ≡ 0 = ap (λ (p : PipeModel). p.taken) (get_or_past m.pipes q no_pipe (rw read.shape.pipes past)) in
+            omega (arith, none)
+      ]
+
+  -- there is no scan
+  no_flag : flag (is_scanning m) ≡ 0
+  no_flag = ap (λ (o : Option ScanModel). flag (elim o [ Some scan ↦ true | None ↦ false ])) read.scan
+
+  thread_lasts : (t : ℕ) → ((thread_of m t).released + flag (thread_of m t).finished ≤ greatest_tail + 1) → t < length program.threads → LastsThread (2 ^ 32 - 1) (is_scanning m) (thread_of m t)
+  thread_lasts t ended known =
+      let none = no_flag in
+      record {
+        ended = omega (arith, none, ended);
+        served = let is = served_word program words m t known read.private in let few = services_few t header.served known (omega arith) (omega arith) in omega (arith, none, is, few);
+        trapped = let is = trapped_word program words m t known read.private in let few = services_few t header.trapped known (omega arith) (omega arith) in omega (arith, none, is, few);
+        expired = let is = expired_word program words m t known read.private in let few = services_few t header.expired known (omega arith) (omega arith) in omega (arith, none, is, few);
+      }
+
+  pub read_lasts : ((t : ℕ) → t < length program.threads → published (queue_of (thread_of m t)) ≤ greatest_tail) → Lasts (2 ^ 32 - 1) m
+  read_lasts fits = record {
+    commits = let none = no_flag in let few = commits_few in omega (arith, none, few);
+    threads = λ t. elim (cases_lt t (length program.threads)) [
+      | inl known ↦ thread_lasts t (let fit = fits t known in let one = flag_one (thread_of m t).finished in omega arith) known
+      | inr past ↦
+          let none = no_flag in
+          subst (LastsThread (2 ^ 32 - 1) (is_scanning m)) (sym (get_or_past m.threads t no_thread (rw read.shape.threads past)))
+          (record { ended = omega (arith, none); served = omega (arith, none); trapped = omega (arith, none); expired = omega (arith, none) })
+    ];
+    taken = λ q. let none = no_flag in let few = taken_few q in omega (arith, none, few);
+  }

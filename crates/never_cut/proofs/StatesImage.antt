@@ -1,0 +1,293 @@
+-- Words that stand for a sound state, and keep what an image promises beside, are an image.
+use Rattle.std.proofs.Common.{◌≡◌, ◌≢◌, ◌⊎◌, inl, inr, ℕ, zero, suc, ◌+◌, ◌-◌, ◌*◌, ◌/◌, ◌%◌, ◌^◌, ◌<◌, ◌≤◌, ◌==◌, Bool, true, false, List, [], ◌∷◌, length, take, get_or, Option, Some, None, refl, sym, ap, ◌∙◌, subst, arith}
+use Rattle.std.specs.Prelude.{if◌then◌else◌, slice_index}
+use Rattle.std.specs.Option.{ForSome}
+use Rattle.std.proofs.lemmas.Bool.{cases_lt, cases_Bool, le-ltb}
+use Rattle.std.proofs.lemmas.List.{get_or_past, get_or-map}
+use Rattle.ink_base.specs.declared.ids.TaskId.{TaskId}
+use Rattle.ink_base.specs.declared.event.Event.{Event}
+use Rattle.ink_base.specs.declared.event.Origin.{Origin}
+use Rattle.ink_base.specs.declared.event.Origin.TheVariants as origins
+use Rattle.ink_base.specs.declared.output.Output.{Output}
+use Rattle.task_isa.specs.declared.program.Program.{Program}
+use Rattle.fram_words.specs.Places.{Memory, Log, Ring, Tail, Slot, Ack, Src, Clock}
+use Rattle.fram_words.specs.Header as header
+use Rattle.fram_words.specs.Held.{next_word, origin_word, origin_of, due_word, output_word, src_of}
+use Rattle.fram_words.proofs.ReadBack.{origin_of-origin_word}
+use Rattle.thread_state.specs.Pages.{committed}
+use Rattle.push_core.specs.Slots.{empty_word}
+use Rattle.push_core.specs.Queue.{Queue, published, event_at, event_source, event_count, IsFinishing, IsOneMore, StandsSource}
+use Rattle.prog_check.specs.Accepted.{IsAccepted}
+use Rattle.prog_check.specs.Lookup.{thread_def, pipe_def, timer_def, source_thread}
+use Rattle.never_cut.specs.declared.model.Model.{Model}
+use Rattle.never_cut.specs.State.{thread_of, pipe_of, timer_of, source_of, queue_of, source_in}
+use Rattle.never_cut.specs.Commit.{outputs_of}
+use Rattle.never_cut.specs.Entries.{Readings}
+use Rattle.never_cut.specs.Stands.{flag, saved, thread_words, writes_pipe, reads_pipe, owns_timer, Stands}
+use Rattle.never_cut.specs.Ranges.{IsOwnOrigin, IsTaskOf}
+use Rattle.never_cut.specs.Sound.{IsQueued, IsServed, IsChain, IsSound}
+use Rattle.never_cut.specs.Within.{Lasts}
+use Rattle.never_cut.specs.ReadOff.{told_finished, told_released, told_held, told_queue, told_source, is_one_more}
+use Rattle.never_cut.specs.Image.{HasChain, IsChainOrigin, IsTakenLast, IsChainValue, IsBlockWord, IsPipeCount, IsItemWord, IsPipeRight, stamp_at, IsLogWord, IsSlotWord, IsTailWord, IsServedFirst, IsQueueRight, own_events, held_for, IsCountWord, IsAckWord, IsSourceRight, IsImage, taken_of, written_of}
+use Rattle.never_cut.specs.Images.{KeepsImage, EveryStateIsImage}
+use Rattle.never_cut.proofs.Blocks.{running_word, first_word, outputs_word, event_words, taken_count, written_count, written_at, taken_at, due_at, period_at, state_at, unused_at}
+use Rattle.never_cut.proofs.ReadSources.{counted, more_found, more_is}
+use Rattle.never_cut.proofs.ReadStates.{own_bits, next_some}
+use Rattle.never_cut.proofs.ToldQueues.{is_readable, queue_told}
+
+-- what is chosen where a test holds, else 0
+chosen_below : (b : Bool) (v n : ℕ) → v < n → 0 < n → (if b then v else 0) < n
+chosen_below true v n lt some = lt
+chosen_below false v n lt some = some
+
+module _ (program : Program) (readings : Readings) (words : Memory) (m : Model) (accepted : IsAccepted program) (sound : IsSound program readings m) (lasts : Lasts 0 m)
+    (stands : Stands words program m) (keeps : KeepsImage program words m) where
+  module _ (t : ℕ) (known : t < length program.threads) where
+    told : told_queue program words t ≡ queue_of (thread_of m t)
+    told = queue_told program readings words m accepted sound stands t known
+
+    -- a thread whose word says so runs a chain
+    chain_of : HasChain words t → (task : TaskId) × ((thread_of m t).running ≡ Some task)
+    chain_of chain = by_running (thread_of m t).running refl
+      where
+        by_running : (o : Option TaskId) → (thread_of m t).running ≡ o → (task : TaskId) × ((thread_of m t).running ≡ Some task)
+        by_running None is = absurd (chain (running_word program words m t known stands.private ∙ ap next_word is))
+        by_running (Some task) is = (task, is)
+
+    -- a served event is one of the thread's own
+    own_served : (o : Origin) (v : ℕ) → IsServed program m t (record { origin = o; value = v }) → IsOwnOrigin program t o
+    own_served (origins.Source source count) v served =
+        let queued = subst (λ e. IsQueued program t e) served.1 ((sound.threads t known).queued 0 served.0) in (queued.0, queued.1, queued.2)
+    own_served (origins.Pipe pipe item) v served = (served.0, served.1, let room = lasts.taken pipe.0 in let is = served.2 in omega arith)
+    own_served (origins.Timer timer deadline) v served = (served.0, served.1, served.2)
+
+    served_value : (o : Origin) (v : ℕ) → IsServed program m t (record { origin = o; value = v }) → IsChainValue o v
+    served_value (origins.Source source count) v served =
+        let queued = subst (λ e. IsQueued program t e) served.1 ((sound.threads t known).queued 0 served.0) in queued.3
+    served_value (origins.Pipe pipe item) v served = served.3
+    served_value (origins.Timer timer deadline) v served = served.3
+
+    served_last : (o : Origin) (v : ℕ) → IsServed program m t (record { origin = o; value = v }) → IsTakenLast words t o
+    served_last (origins.Source source count) v served = tt
+    served_last (origins.Pipe pipe item) v served = served.2 ∙ sym (taken_count program words m t pipe.0 accepted known stands.private served.0 served.1)
+    served_last (origins.Timer timer deadline) v served = tt
+
+    served_first : (o : Origin) (v : ℕ) → IsServed program m t (record { origin = o; value = v }) → IsServedFirst (thread_of m t).held o v
+    served_first (origins.Source source count) v served = served
+    served_first (origins.Pipe pipe item) v served = tt
+    served_first (origins.Timer timer deadline) v served = tt
+
+    module _ (chain : HasChain words t) where
+      runs : IsChain program m t (chain_of chain).0.0
+      runs = (sound.threads t known).chain (chain_of chain).0 (chain_of chain).1
+
+      event_is : (committed words t header.origin ≡ origin_word runs.event.origin) × (committed words t header.value ≡ runs.event.value)
+      event_is = event_words program words m t runs.event known stands.private runs.is
+
+      own : IsOwnOrigin program t runs.event.origin
+      own = own_served runs.event.origin runs.event.value runs.served
+
+      origin_back : origin_of (committed words t header.origin) ≡ runs.event.origin
+      origin_back = ap origin_of event_is.0 ∙ origin_of-origin_word runs.event.origin (own_bits program t runs.event.origin accepted own)
+
+      next_right : IsTaskOf program t (committed words t header.next - 1)
+      next_right =
+          let at : committed words t header.next ≡ (chain_of chain).0.0 + 1 = running_word program words m t known stands.private ∙ ap next_word (chain_of chain).1 in
+          let back : (chain_of chain).0.0 ≡ committed words t header.next - 1 = omega (arith, at) in
+          subst (IsTaskOf program t) back (runs.known, runs.own)
+
+      origin_right : (o : Origin) × (committed words t header.origin ≡ origin_word o) × IsChainOrigin program words t o
+      origin_right = (runs.event.origin, event_is.0, (own, served_last runs.event.origin runs.event.value runs.served))
+
+      value_right : IsChainValue (origin_of (committed words t header.origin)) (committed words t header.value)
+      value_right = subst (λ (z : Origin × ℕ). IsChainValue z.0 z.1) (λ k. (sym origin_back k, sym event_is.1 k)) (served_value runs.event.origin runs.event.value runs.served)
+
+      first_right : IsServedFirst (told_held program words t) (origin_of (committed words t header.origin)) (committed words t header.value)
+      first_right =
+          subst (λ (z : List Event × Origin × ℕ). IsServedFirst z.0 z.1 z.2) (λ k. ((sym told k).held, sym origin_back k, sym event_is.1 k))
+          (served_first runs.event.origin runs.event.value runs.served)
+
+    abbrev block : (w : ℕ) → committed words t w ≡ slice_index (thread_words (saved program m t) (stands.private.threads t known).stamp (stands.private.threads t known).origin (stands.private.threads t known).value) w
+    block = (stands.private.threads t known).block
+
+    written_is : (q : ℕ) → q < 8 → committed words t (header.written q) ≡ (saved program m t).written q
+    written_is q lt = block (header.written q) ∙ written_at (saved program m t) _ _ _ q lt
+
+    taken_is : (q : ℕ) → q < 8 → committed words t (header.taken q) ≡ (saved program m t).taken q
+    taken_is q lt = block (header.taken q) ∙ taken_at (saved program m t) _ _ _ q lt
+
+    due_is : (j : ℕ) → j < 8 → committed words t (header.due j) ≡ (saved program m t).due j
+    due_is j lt = block (header.due j) ∙ due_at (saved program m t) _ _ _ j lt
+
+    period_is : (j : ℕ) → j < 8 → committed words t (header.period j) ≡ (saved program m t).period j
+    period_is j lt = block (header.period j) ∙ period_at (saved program m t) _ _ _ j lt
+
+    -- behind the header stands the state
+    state_is : (w : ℕ) → header.words ≤ w → committed words t w ≡ slice_index (thread_of m t).state (w - header.words)
+    state_is w le = block w ∙ state_at (saved program m t) _ _ _ w le
+
+    block_right : (w : ℕ) → IsBlockWord program words t w
+    block_right w = record {
+      next = λ _ chain. next_right chain;
+      first = λ _. let is = first_word program words m t known stands.private in let le = (sound.threads t known).first in let now = stands.shared.clock in omega (arith, is, le, now);
+      origin = λ _ chain. origin_right chain;
+      value = λ _ chain. value_right chain;
+      outputs = λ _. let is = outputs_word program words m t known stands.private in let le = (sound.threads t known).outputs in omega (arith, is, le);
+      written = λ q lt _ foreign. written_is q lt ∙ ap (λ (b : Bool). if b then (pipe_of m q).taken + length (pipe_of m q).items else 0) foreign;
+      taken = λ q lt _ foreign. taken_is q lt ∙ ap (λ (b : Bool). if b then (pipe_of m q).taken else 0) foreign;
+      due = λ j lt _. let below = due_below j in omega (arith, due_is j lt, below);
+      period = λ j lt _. let below = period_below j in omega (arith, period_is j lt, below);
+      foreign_due = λ j lt _ foreign. due_is j lt ∙ ap (λ (b : Bool). if b then due_word (timer_of m j).due else 0) foreign;
+      foreign_period = λ j lt _ foreign. period_is j lt ∙ ap (λ (b : Bool). if b then (timer_of m j).period else 0) foreign;
+      unused = λ le lt. block w ∙ unused_at (saved program m t) _ _ _ w le lt;
+      state = λ le. let small = keeps.states t (w - header.words) known in omega (arith, state_is w le, small);
+      rest = λ le.
+          let size = sound.shape.states t known in
+          state_is w (omega arith) ∙ get_or_past (thread_of m t).state (w - header.words) 0 (omega (arith, size));
+    }
+      where
+        word_fits : (o : Option ℕ) → ForSome o (λ due. due < 2 ^ 48) → due_word o < 2 ^ 48 + 1
+        word_fits None fits = omega arith
+        word_fits (Some due) fits = let lt = fits due refl in omega arith
+
+        none_below : (j : ℕ) → length program.timers ≤ j → (n v : ℕ) → 0 < n → (if owns_timer program t j then v else 0) < n
+        none_below j past n v some =
+            rw (le-ltb j (length program.timers) past) some
+
+        due_below : (j : ℕ) → (saved program m t).due j < 2 ^ 48 + 1
+        due_below j =
+            elim (cases_lt j (length program.timers)) [
+              | inl there ↦ chosen_below (owns_timer program t j) (due_word (timer_of m j).due) (2 ^ 48 + 1) (word_fits (timer_of m j).due (sound.timers j there).due) (omega arith)
+              | inr past ↦ none_below j past (2 ^ 48 + 1) (due_word (timer_of m j).due) (omega arith)
+            ]
+
+        period_below : (j : ℕ) → (saved program m t).period j < 2 ^ 32
+        period_below j =
+            elim (cases_lt j (length program.timers)) [
+              | inl there ↦ chosen_below (owns_timer program t j) (timer_of m j).period (2 ^ 32) (sound.timers j there).period (omega arith)
+              | inr past ↦ none_below j past (2 ^ 32) (timer_of m j).period (omega arith)
+            ]
+
+    log_right : (n : ℕ) → n < committed words t header.outputs → IsLogWord program words t n
+    log_right n lt =
+        let count = outputs_word program words m t known stands.private in
+        let here : n < length (outputs_of m t) = omega (arith, count, lt) in
+        let d : Output = record { stamp = 0; thread = record { 0 = 0 }; value = 0 } in
+        let own = keeps.reached t known n d here in
+        record {
+          least = let is = stamp_is t known n here in omega (arith, is, own.0);
+          most = let is = stamp_is t known n here in omega (arith, is, own.1);
+          ordered = λ k next.
+              let le = keeps.ordered t known k n d (omega arith) here in
+              let first = stamp_is t known k (omega arith) in let second = stamp_is t known n here in omega (arith, first, second, le);
+          own = λ u k less there same.
+              let other : u < length program.threads = omega arith in
+              let size = outputs_word program words m u other stands.private in
+              let at : k < length (outputs_of m u) = omega (arith, size, there) in
+              keeps.apart t u known less n d here k d at (sym (stamp_is u other k at) ∙ (same ∙ stamp_is t known n here));
+        }
+      where
+        stamp_is : (u : ℕ) → u < length program.threads → (k : ℕ) → k < length (outputs_of m u) →
+            stamp_at words u k ≡ (get_or (outputs_of m u) k (record { stamp = 0; thread = record { 0 = 0 }; value = 0 })).stamp
+        stamp_is u there k lt =
+            let d : Output = record { stamp = 0; thread = record { 0 = 0 }; value = 0 } in
+            let o : Output = get_or (outputs_of m u) k d in
+            let word : words (Log u k) ≡ output_word o = (stands.private.threads u there).log k lt ∙ get_or-map output_word (outputs_of m u) k d 0 lt in
+            let small : o.value < 2 ^ 32 = keeps.values u there k d lt in
+            omega (arith, word, small)
+
+    queue_right : IsQueueRight program words t
+    queue_right =
+        let stood = is_readable program readings words m accepted sound stands t known in
+        record {
+          slots = λ k lt. record {
+            empty = subst (λ (q : Queue). length q.held ≤ k → words (Slot t ((q.released + k) % (thread_def program t).queue)) ≡ empty_word (q.released + k)) (sym told)
+                (λ behind. stood.stands.empty_slots ((thread_of m t).released + k) (omega arith) (omega arith));
+            fits = subst (λ (q : Queue). length q.held ≤ k → q.released + k < 2 ^ 21) (sym told)
+                (λ behind. let small = stood.small in let few = stood.few in omega arith);
+          };
+          tail = subst (λ (q : Queue). (words (Tail t) ≡ published q) ⊎ (words (Tail t) + 1 ≡ published q)) (sym told) stood.stands.tail_near;
+          only = λ done u less.
+              let other : u < length program.threads = omega arith in
+              let mine : (thread_of m t).finished ≡ true = sym (ap (λ (q : Queue). q.finished) told) ∙ done in
+              ap (λ (q : Queue). q.finished) (queue_told program readings words m accepted sound stands u other) ∙ keeps.only t u known less mine;
+          idle = λ done.
+              let mine : (thread_of m t).finished ≡ true = sym (ap (λ (q : Queue). q.finished) told) ∙ done in
+              running_word program words m t known stands.private ∙ ap next_word ((sound.threads t known).finished mine).1;
+          served = λ chain. first_right chain;
+        }
+
+  pipe_right : (q : ℕ) → q < length program.pipes → IsPipeRight program words q
+  pipe_right q known =
+      let pipe = accepted.pipes q known in
+      let taken : taken_of program words q ≡ (pipe_of m q).taken = taken_count program words m (pipe_def program q).reader.0 q accepted pipe.reader stands.private known refl in
+      let written : written_of program words q ≡ (pipe_of m q).taken + length (pipe_of m q).items = written_count program words m q accepted stands.private known in
+      record {
+        counts = record {
+          ordered = omega (arith, taken, written);
+          room = let le = (sound.pipes q known).room in omega (arith, taken, written, le);
+        };
+        items = λ n from below.
+            let k : ℕ = n - (pipe_of m q).taken in
+            let same : (pipe_of m q).taken + k ≡ n = omega (arith, taken, from) in
+            let lt : k < length (pipe_of m q).items = omega (arith, taken, written, from, below) in
+            let word = subst (λ z. words (Ring q (z % (pipe_def program q).places)) ≡ slice_index (pipe_of m q).items k) same (stands.private.pipes q known k lt) in
+            let small = (sound.pipes q known).values k in
+            omega (arith, word, small);
+      }
+
+  module _ (i : ℕ) (known : i < length program.sources) where
+    fed : source_thread program i < length program.threads
+    fed = accepted.sources i known
+
+    queue_is : told_queue program words (source_thread program i) ≡ queue_of (thread_of m (source_thread program i))
+    queue_is = told (source_thread program i) fed
+
+    few : i < 256
+    few = let most = accepted.counts.sources in omega arith
+
+    -- the source's words stand for it, by the events that are told
+    stood : StandsSource i (words (Src i)) (words (Ack i)) (held_for program words i) (source_in (source_of m i))
+    stood = subst (λ (q : Queue). StandsSource i (words (Src i)) (words (Ack i)) q.held (source_in (source_of m i))) (sym queue_is) (stands.shared.sources i known)
+
+    -- so its numbers are those that are told
+    numbers_told : (b : Bool) → is_one_more program words i ≡ b →
+        ((source_of m i).accepted ≡ (told_source program words i).accepted) × ((source_of m i).next ≡ (told_source program words i).next)
+    numbers_told true is =
+        let more = stood.one_more (more_is program words i few is) in
+        let one : flag (is_one_more program words i) ≡ 1 = ap flag is in (omega (arith, more.0, one), omega (arith, more.1, one))
+    numbers_told false is =
+        let kept = stood.as_many (λ more. absurd (let clash : false ≡ true = sym is ∙ more_found program words i few more in cc)) in
+        let none : flag (is_one_more program words i) ≡ 0 = ap flag is in (omega (arith, kept.0, none), omega (arith, kept.1, none))
+
+    source_right : IsSourceRight program words i
+    source_right =
+        let same = numbers_told (is_one_more program words i) refl in
+        let kept = keeps.numbers i known in
+        let back = counted i (thread_of m (source_thread program i)).held kept.gone (source_of m i).accepted kept.numbered in
+        let held_is : held_for program words i ≡ (thread_of m (source_thread program i)).held = ap (λ (q : Queue). q.held) queue_is in
+        let count : own_events i (held_for program words i) ≡ own_events i (thread_of m (source_thread program i)).held = ap (own_events i) held_is in
+        let gone_is : kept.gone ≡ (told_source program words i).accepted - own_events i (held_for program words i) = omega (arith, same.0, back.0, count) in
+        record {
+          src = let le = (sound.sources i known).ordered in omega (arith, same.0, same.1, le);
+          counts = λ j lt own. (
+            omega (arith, same.0, back.0, count),
+            subst (λ (l : List Event). j < length l → event_source (event_at l j) ≡ i → event_count (event_at l j) ≡ (kept.gone + own_events i (take j l)) % 64) (sym held_is) (back.1 j) lt own
+            ∙ ap (λ n. (n + own_events i (take j (held_for program words i))) % 64) gone_is,
+          );
+          ack = elim kept.ack_is [
+            | inl is ↦ inl (is ∙ ap (λ n. n % 64) gone_is)
+            | inr done ↦ inr (subst (λ (z : ℕ × Queue). IsFinishing i z.0 z.1) (λ k. (gone_is k % 64, sym queue_is k)) done.0, done.1 ∙ ap (λ n. (n + 1) % 64) gone_is)
+          ];
+        }
+
+pub every_state : EveryStateIsImage
+every_state program readings words m accepted sound lasts stands keeps = record {
+  code = stands.private.code;
+  commit_words = keeps.commit_words;
+  blocks = λ t w known lt. block_right program readings words m accepted sound lasts stands keeps t known w;
+  pipes = pipe_right program readings words m accepted sound lasts stands keeps;
+  logs = λ t n known lt. log_right program readings words m accepted sound lasts stands keeps t known n lt;
+  queues = λ t known. queue_right program readings words m accepted sound lasts stands keeps t known;
+  sources = λ i known. source_right program readings words m accepted sound lasts stands keeps i known;
+}

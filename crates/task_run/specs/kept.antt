@@ -1,0 +1,3 @@
+-- What only the proof keeps: what is known while a pick is served, and which page an access copies.
+pub mod Serving
+pub mod Copies

@@ -1,0 +1,376 @@
+-- What is known while a pick is served.
+use Rattle.std.specs.Prelude.{◌≡◌, ℕ, ◌+◌, ◌-◌, ◌*◌, ◌/◌, ◌^◌, ◌<◌, ◌≤◌, ◌==◌, Bool, true, false, if◌then◌else◌, List, [], ◌∷◌, ◌++◌, length, slice_index, slice_index_or, Some, None}
+use Rattle.ink_base.specs.declared.ids.TaskId.{TaskId}
+use Rattle.ink_base.specs.declared.event.Origin.{Origin}
+use Rattle.ink_base.specs.declared.event.Origin.TheVariants as origins
+use Rattle.fram_words.specs.Places.{Memory, Ring, Commit}
+use Rattle.fram_words.specs.Held.{origin_word, due_word, output_word}
+use Rattle.event_pipe.specs.Ring.{ring_index}
+use Rattle.persist_timer.specs.Due.{after_service, armed}
+use Rattle.thread_state.specs.Pages.{Buffer, Loading, Buffered, IsUnderWay}
+use Rattle.task_isa.specs.declared.instr.Instr.{Instr}
+use Rattle.task_isa.specs.declared.act.Act.{Act}
+use Rattle.task_isa.specs.declared.act.Act.TheVariants.{Loads, Saves, Puts, Sends, Arms, Stops}
+use Rattle.task_isa.specs.declared.outcome.Outcome.TheVariants as outcomes
+use Rattle.task_isa.specs.declared.program.Program.{Program}
+use Rattle.task_isa.specs.declared.sent.Sent.{Sent}
+use Rattle.task_isa.specs.declared.timer_set.TimerSet.{TimerSet}
+use Rattle.task_isa.specs.declared.task_end.TaskEnd.{TaskEnd}
+use Rattle.task_isa.specs.Acts.{Given, act_of, number_of}
+use Rattle.task_isa.specs.Meaning.{Effects, Config, Room, RunEnd, Ended, Trapped, instr_at, run, run_of, task_end, given_of, room_of, no_effects, sent_to}
+use Rattle.prog_check.specs.Lookup.{thread_def, pipe_def, task_def}
+use Rattle.ink_layout.specs.declared.pick.Pick.{Pick}
+use Rattle.never_cut.specs.declared.model.Model.{Model}
+use Rattle.never_cut.specs.declared.pipe_model.PipeModel.{PipeModel}
+use Rattle.never_cut.specs.State.{no_pipe}
+use Rattle.never_cut.specs.Commit.{start_at, task_at, stamped, is_expired, is_of_queue, with_sends}
+use Rattle.never_cut.specs.Stands.{Saved, saved, thread_words, log_of, AreLogged}
+use Rattle.never_cut.specs.Picked.{IsPicked}
+use Rattle.task_run.specs.declared.ending.Ending.{Ending}
+use Rattle.task_run.specs.declared.ending.Ending.TheVariants as endings
+use Rattle.task_run.specs.declared.execution.Execution.{Execution}
+use Rattle.task_run.specs.declared.sending.Sending.{Sending}
+use Rattle.task_run.specs.declared.phase.Phase.{Phase}
+use Rattle.task_run.specs.declared.phase.Phase.TheVariants.{WriteFirst, WriteOrigin, WriteValue, WriteTaken, ReadPeriod, WriteDue, Resume, Fetch, ReadState, WriteState, ReadCount, StoreLog, WriteCount, LoadReader, LoadTaken, ReadWritten, StoreItem, WriteWritten, WriteArmed, WritePeriod, WriteStopped, WriteNext, WriteFinished, ReadTotal, WriteTotal, WriteStamp, StoreCommit}
+use Rattle.task_run.specs.declared.machine.TaskMachine.{TaskMachine}
+use Rattle.task_run.specs.Machine.{Action, Put, Get, Make, action, cpu_of, execution_of}
+
+-- what a pick has to run: the task, its code and its limit, what its instructions read beside the registers, the room of its effects, and whether the
+-- chain has expired, so that none of it runs
+pub record Assignment : Type 0 where
+  pub task : ℕ
+  pub code : List Instr
+  pub limit : ℕ
+  pub given : Given
+  pub room : Room
+  pub late : Bool
+
+-- the running task of the pick's thread, or its first one
+abbrev pub assignment : Program → Model → Pick → Assignment
+assignment program m pick =
+    let start = start_at program m pick.thread.0 pick.event pick.time in
+    let task = task_at program m pick.thread.0 in
+    record {
+      task = task;
+      code = (task_def program task).code;
+      limit = (task_def program task).limit;
+      given = given_of start;
+      room = room_of start;
+      late = is_expired program m pick.thread.0 pick.time;
+    }
+
+-- the whole run of the task from the thread's state, and what it leaves
+abbrev pub whole : Assignment → Saved → RunEnd
+whole a x = run_of a.code a.limit a.given a.room x.state
+
+abbrev pub end_of : Assignment → Saved → TaskEnd
+end_of a x = task_end a.limit x.state (whole a x)
+
+-- a function with another value at one number
+abbrev pub changed : (ℕ → ℕ) → (at value : ℕ) → ℕ → ℕ
+changed f at value k = if k == at then value else f k
+
+-- the event's consumption in the thread's own words: an item is taken, a timer is due one period later or off
+abbrev pub consumed : Origin → Saved → Saved
+consumed (origins.Source source count) x = x
+consumed (origins.Pipe pipe item) x = record x { taken = changed x.taken pipe.0 (item + 1) }
+consumed (origins.Timer timer deadline) x = record x { due = changed x.due timer.0 (after_service (deadline + 1) (x.period timer.0)) }
+
+-- the thread once its service began; a running chain's began before
+abbrev pub begun : Pick → Saved → Saved
+begun pick x = elim pick.running [ Some task ↦ x | None ↦ consumed pick.event.origin (record x { first = pick.time }) ]
+
+-- the numbers of written items with what was sent
+abbrev pub written_with : List Sent → (ℕ → ℕ) → ℕ → ℕ
+written_with [] f = f
+written_with (s ∷ sends) f = written_with sends (changed f s.pipe.0 (f s.pipe.0 + 1))
+
+-- the words of timers, and their periods, as they were set; a stopped timer keeps its period
+abbrev pub due_with : List TimerSet → (ℕ → ℕ) → ℕ → ℕ
+due_with [] f = f
+due_with (s ∷ settings) f = due_with settings (changed f s.timer.0 (due_word s.due))
+
+abbrev pub period_by : TimerSet → (ℕ → ℕ) → ℕ → ℕ
+period_by s f = elim s.due [ None ↦ f | Some due ↦ changed f s.timer.0 s.period ]
+
+abbrev pub period_with : List TimerSet → (ℕ → ℕ) → ℕ → ℕ
+period_with [] f = f
+period_with (s ∷ settings) f = period_with settings (period_by s f)
+
+-- with the effects of a task at a commit
+abbrev pub with_effects : (stamp t : ℕ) → Effects → Saved → Saved
+with_effects stamp t e x =
+    record x {
+      state = e.state;
+      outputs = x.outputs ++ stamped stamp t e.outs;
+      written = written_with e.sends x.written;
+      due = due_with e.timers x.due;
+      period = period_with e.timers x.period;
+    }
+
+-- idle, with one more queue event finished, and with one more service counted
+abbrev pub rested : Saved → Saved
+rested x = record x { running = None }
+
+abbrev pub finish : Saved → Saved
+finish x = record x { ended = x.ended + 1 }
+
+abbrev pub finished_by : Origin → Saved → Saved
+finished_by (origins.Source source count) x = finish x
+finished_by (origins.Pipe pipe item) x = x
+finished_by (origins.Timer timer deadline) x = x
+
+abbrev pub total_of : Ending → Saved → ℕ
+total_of endings.Trapped x = x.trapped
+total_of endings.Expired x = x.expired
+total_of _ x = x.served
+
+abbrev pub with_total : Ending → ℕ → Saved → Saved
+with_total endings.Trapped n x = record x { trapped = n }
+with_total endings.Expired n x = record x { expired = n }
+with_total _ n x = record x { served = n }
+
+abbrev pub counted : Ending → Saved → Saved
+counted ending x = with_total ending (total_of ending x + 1) x
+
+-- the thread at the end of its task: the chain goes on, or the service is over
+abbrev pub concluded : Ending → Origin → Saved → Saved
+concluded (endings.Next task) origin x = record x { running = Some (record { 0 = task }) }
+concluded ending origin x = counted ending (finished_by origin (rested x))
+
+-- the configuration of a run that the registers and these effects stand for
+abbrev pub config_of : Execution → Effects → Config
+config_of x effects = record { cpu = cpu_of x; effects = effects }
+
+-- within the run: the rest of the run from here ends as the whole task does
+pub record Running (x : Saved) (a : Assignment) (pick : Pick) (stamp : ℕ) (ending : Ending) (e : Execution) (y : Saved) (sends : List Sent) (o v : ℕ) : Type 0 where
+  pub effects : Effects
+  pub made : y ≡ with_effects (stamp + 1) pick.thread.0 effects (begun pick x)
+  pub sent : sends ≡ effects.sends
+  pub rest : run a.code a.given a.room (a.limit - e.executed) (config_of e effects) ≡ whole a x
+  -- no pipe was sent more than it has room for
+  pub few : (q : ℕ) → sent_to q effects.sends ≤ slice_index a.room.pipes q
+  pub left : e.executed < a.limit
+  pub task : e.task.0 ≡ a.task
+  pub inside : e.at < length a.code
+  pub early : a.late ≡ false
+  pub unended : ending ≡ endings.Done
+  pub origin : o ≡ origin_word pick.event.origin
+  pub value : v ≡ pick.event.value
+
+-- within an instruction that was fetched
+pub record Executing (x : Saved) (a : Assignment) (pick : Pick) (stamp : ℕ) (ending : Ending) (e : Execution) (y : Saved) (sends : List Sent) (o v : ℕ) (act : Act) : Type 0 where
+  pub running : Running x a pick stamp ending e y sends o v
+  pub is_act : act_of (instr_at a.code e.at) a.given (cpu_of e) ≡ act
+  -- another instruction follows behind it
+  pub goes_on : e.at + 1 < length a.code
+
+abbrev pub IsTrap : RunEnd → Type 0
+IsTrap (Ended outcome effects left) = ⊥
+IsTrap (Trapped code left) = Unit {0}
+
+-- before the run of an idle thread's task: it did not begin, or it ended by a trap
+pub data Before (a : Assignment) (x : Saved) : Ending → Type 0 where
+  Begins : Before a x endings.Done
+  Again : IsTrap (whole a x) → Before a x endings.Trapped
+
+-- the run ended so
+abbrev pub IsEndOf : RunEnd → Ending → Type 0
+IsEndOf (Ended (outcomes.Next task) e left) ending = ending ≡ endings.Next task.0
+IsEndOf (Ended outcomes.Done e left) ending = ending ≡ endings.Done
+IsEndOf (Ended (outcomes.Trap code) e left) ending = ⊥
+IsEndOf (Trapped code left) ending = ending ≡ endings.Trapped
+
+-- an expired chain ends without a run
+abbrev pub IsEnd : Assignment → Saved → Ending → Type 0
+IsEnd a x ending = elim a.late [ true ↦ ending ≡ endings.Expired | false ↦ IsEndOf (whole a x) ending ]
+
+-- the effects of the task; an expired chain has none
+abbrev pub effects_of : TaskEnd → Effects
+effects_of end = record { state = end.state; sends = end.sends; outs = end.outs; timers = end.timers }
+
+abbrev pub result : Assignment → Saved → Effects
+result a x = if a.late then no_effects x.state else effects_of (end_of a x)
+
+-- the thread with the effects of the whole task, and with the end of the service
+abbrev pub worked : Saved → Assignment → Pick → ℕ → Saved
+worked x a pick stamp = with_effects (stamp + 1) pick.thread.0 (result a x) (begun pick x)
+
+abbrev pub served : Saved → Assignment → Pick → ℕ → Ending → Saved
+served x a pick stamp ending = concluded ending pick.event.origin (worked x a pick stamp)
+
+-- the service is over
+abbrev pub IsLast : Ending → Type 0
+IsLast (endings.Next task) = ⊥
+IsLast _ = Unit {0}
+
+-- the ring words of the pipes
+abbrev pub rings_of : Memory → ℕ → ℕ → ℕ
+rings_of words q n = words (Ring q n)
+
+-- each ring holds the items of its pipe, and behind them what was sent to it
+abbrev pub AreSent : (ℕ → ℕ → ℕ) → Program → List PipeModel → List Sent → Type 0
+AreSent rings program pipes sends =
+    (q k : ℕ) → q < length program.pipes → let pipe = slice_index_or (with_sends sends pipes) q no_pipe in
+    k < length pipe.items → rings q (ring_index (pipe_def program q).places (pipe.taken + k)) ≡ slice_index pipe.items k
+
+-- What the registers hold beside the working copy, and what the copy stands for: x is what the state says of the thread, y what the working copy stands
+-- for, `sends` what is in the rings beside the items of the pipes.
+pub record Told : Type 0 where
+  pub program : Program
+  pub x : Saved
+  pub a : Assignment
+  pub pipes : List PipeModel
+  pub pick : Pick
+  pub stamp : ℕ
+  pub ending : Ending
+  pub execution : Execution
+  pub y : Saved
+  pub sends : List Sent
+  pub s : ℕ
+  pub o : ℕ
+  pub v : ℕ
+
+abbrev pub RunningIn : Told → Type 0
+RunningIn p = Running p.x p.a p.pick p.stamp p.ending p.execution p.y p.sends p.o p.v
+
+abbrev pub ExecutingIn : Told → Act → Type 0
+ExecutingIn p act = Executing p.x p.a p.pick p.stamp p.ending p.execution p.y p.sends p.o p.v act
+
+-- the event's words are being written: nothing of a run is there
+pub record Beginning (p : Told) (y : Saved) : Type 0 where
+  pub idle : p.pick.running ≡ None
+  pub early : p.a.late ≡ false
+  pub is : p.y ≡ y
+  pub unsent : p.sends ≡ []
+  pub before : Before p.a p.x p.ending
+
+-- the end is being written: the working copy stands for y
+pub record Finishing (p : Told) (y : Saved) : Type 0 where
+  pub is : p.y ≡ y
+  pub sent : p.sends ≡ (result p.a p.x).sends
+  pub end : IsEnd p.a p.x p.ending
+  -- a chain that goes on has its event in its words
+  pub origin : p.o ≡ origin_word p.pick.event.origin
+  pub value : p.v ≡ p.pick.event.value
+
+abbrev pub worked_in : Told → Saved
+worked_in p = worked p.x p.a p.pick p.stamp
+
+-- an item is being sent: the pipe has had this many items taken
+pub record SendingTo (p : Told) (s : Sending) : Type 0 where
+  pub executing : ExecutingIn p (Sends s.pipe s.register s.value)
+  pub pipe : s.pipe < length p.program.pipes
+  pub writer : (pipe_def p.program s.pipe).writer.0 ≡ p.pick.thread.0
+
+-- and there is room for it behind as many as were written
+pub record Placing (p : Told) (s : Sending) (written : ℕ) : Type 0 where
+  pub sending : SendingTo p s
+  pub count : written ≡ p.y.written s.pipe
+  pub room : written < (slice_index_or p.pipes s.pipe no_pipe).taken + (pipe_def p.program s.pipe).places
+
+-- a timer of the thread is being armed
+pub record Arming (p : Told) (timer delay period : ℕ) : Type 0 where
+  pub executing : ExecutingIn p (Arms timer delay period)
+  pub known : timer < length p.program.timers
+
+-- the thread with one timer's word changed
+abbrev pub with_due : Saved → (timer word : ℕ) → Saved
+with_due y timer word = record y { due = changed y.due timer word }
+
+-- armed: the word is written, the period is not
+pub record HalfArmed (p : Told) (timer period : ℕ) : Type 0 where
+  pub before : Saved
+  pub delay : ℕ
+  pub arming : Arming (record p { y = before }) timer delay period
+  pub is : p.y ≡ with_due before timer (armed p.pick.time delay)
+
+-- the event is an item of a pipe
+abbrev pub IsOfPipe : Origin → Type 0
+IsOfPipe (origins.Pipe pipe item) = Unit {0}
+IsOfPipe _ = ⊥
+
+-- or of a timer
+abbrev pub IsOfTimer : Origin → Type 0
+IsOfTimer (origins.Timer timer deadline) = Unit {0}
+IsOfTimer _ = ⊥
+
+-- what is known in a phase
+abbrev pub Progress : Memory → Told → Phase → Type 0
+Progress words p WriteFirst = Beginning p p.x
+Progress words p WriteOrigin = Beginning p (record p.x { first = p.pick.time })
+Progress words p WriteValue = Beginning p (record p.x { first = p.pick.time }) × (p.o ≡ origin_word p.pick.event.origin)
+Progress words p WriteTaken =
+    Beginning p (record p.x { first = p.pick.time }) × (p.o ≡ origin_word p.pick.event.origin) × (p.v ≡ p.pick.event.value) × IsOfPipe p.pick.event.origin
+Progress words p ReadPeriod =
+    Beginning p (record p.x { first = p.pick.time }) × (p.o ≡ origin_word p.pick.event.origin) × (p.v ≡ p.pick.event.value) × IsOfTimer p.pick.event.origin
+Progress words p (WriteDue word) =
+    Beginning p (record p.x { first = p.pick.time }) × (p.o ≡ origin_word p.pick.event.origin) × (p.v ≡ p.pick.event.value)
+    × IsOfTimer p.pick.event.origin × (word ≡ after_service p.pick.due_word (p.x.period (number_of p.pick.event.origin)))
+Progress words p Resume =
+    (task : TaskId) × (p.pick.running ≡ Some task) × (p.y ≡ p.x) × (p.sends ≡ []) × (p.ending ≡ endings.Done) × (p.execution ≡ execution_of task)
+    × (p.o ≡ origin_word p.pick.event.origin) × (p.v ≡ p.pick.event.value)
+Progress words p Fetch = RunningIn p
+Progress words p (ReadState r n) = ExecutingIn p (Loads r n) × (n < length p.y.state)
+Progress words p (WriteState n w) = ExecutingIn p (Saves n w) × (n < length p.y.state)
+Progress words p (ReadCount w) = ExecutingIn p (Puts w)
+Progress words p (StoreLog n w) =
+    ExecutingIn p (Puts w) × (n ≡ length p.y.outputs) × (length p.y.outputs < length p.x.outputs + p.a.room.log)
+Progress words p (WriteCount k) =
+    (w : ℕ) × ExecutingIn p (Puts w) × (k ≡ length p.y.outputs + 1) × (length p.y.outputs < length p.x.outputs + p.a.room.log)
+    × (log_of words p.pick.thread.0 (length p.y.outputs) ≡ output_word (record { stamp = p.stamp + 1; thread = p.pick.thread; value = w }))
+Progress words p (LoadReader s) = SendingTo p s
+Progress words p (LoadTaken s commit) = SendingTo p s × (commit ≡ words (Commit (pipe_def p.program s.pipe).reader.0))
+Progress words p (ReadWritten s taken) = SendingTo p s × (taken ≡ (slice_index_or p.pipes s.pipe no_pipe).taken)
+Progress words p (StoreItem s written) = Placing p s written
+Progress words p (WriteWritten s written) = Placing p s written × (words (Ring s.pipe (ring_index (pipe_def p.program s.pipe).places written)) ≡ s.value)
+Progress words p (WriteArmed timer delay period) = Arming p timer delay period
+Progress words p (WritePeriod timer period) = HalfArmed p timer period
+Progress words p (WriteStopped timer) = ExecutingIn p (Stops timer) × (timer < length p.program.timers)
+Progress words p WriteNext = Finishing p (worked_in p)
+Progress words p WriteFinished = Finishing p (rested (worked_in p)) × IsLast p.ending × (is_of_queue p.pick.event ≡ true)
+Progress words p ReadTotal = Finishing p (finished_by p.pick.event.origin (rested (worked_in p))) × IsLast p.ending
+Progress words p (WriteTotal n) = Finishing p (finished_by p.pick.event.origin (rested (worked_in p))) × IsLast p.ending × (n ≡ total_of p.ending p.y + 1)
+Progress words p WriteStamp = Finishing p (concluded p.ending p.pick.event.origin (worked_in p))
+Progress words p StoreCommit = Finishing p (concluded p.ending p.pick.event.origin (worked_in p)) × (p.s ≡ p.stamp + 1)
+Progress words p _ = ⊥
+
+-- the copying that an action may have begun
+abbrev pub IsReady : Memory → ℕ → Buffer → Action → Type 0
+IsReady words t b (Put w v) = IsUnderWay words t b (w / 8)
+IsReady words t b (Get w) = b.copying ≡ Loading 0
+IsReady words t b (Make access) = b.copying ≡ Loading 0
+
+abbrev pub told : Program → Model → TaskMachine → (y : Saved) → (sends : List Sent) → (s o v : ℕ) → Told
+told program m r y sends s o v =
+    record {
+      program = program;
+      x = saved program m r.pick.thread.0;
+      a = assignment program m r.pick;
+      pipes = m.pipes;
+      pick = r.pick;
+      stamp = r.stamp;
+      ending = r.ending;
+      execution = r.execution;
+      y = y;
+      sends = sends;
+      s = s;
+      o = o;
+      v = v;
+    }
+
+-- from the pick to the commit: the working copy stands for a thread y, with a stamp, origin and value that are not the state's
+pub record Serving (program : Program) (words : Memory) (m : Model) (r : TaskMachine) : Type 0 where
+  pub y : Saved
+  pub sends : List Sent
+  pub s : ℕ
+  pub o : ℕ
+  pub v : ℕ
+  pub picked : IsPicked program words m r.pick
+  pub stamp : r.stamp ≡ m.commits
+  pub buffered : Buffered words r.pick.thread.0 r.buffer (λ k. slice_index (thread_words y s o v) k)
+  pub ready : IsReady words r.pick.thread.0 r.buffer (action program r r.phase)
+  pub logged : AreLogged (log_of words r.pick.thread.0) y.outputs
+  pub sent : AreSent (rings_of words) program m.pipes sends
+  pub size : length y.state ≡ (thread_def program r.pick.thread.0).state
+  pub progress : Progress words (told program m r y sends s o v) r.phase
