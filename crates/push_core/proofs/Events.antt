@@ -62,7 +62,7 @@ pub slot_in-event_word : (p : ℕ) (e : Event) → FitsEvent p e → slot_in (ev
 slot_in-event_word p e h =
     ap slot_in (event_word-is p e h.source_fits)
     ∙ slot_in-full p (record { 0 = event_source e }) (event_count e) e.value
-        (record { position_fits = h.position_fits; source_fits = h.source_fits; count_fits = h.count_fits }) h.value_fits
+    (record { position_fits = h.position_fits; source_fits = h.source_fits; count_fits = h.count_fits }) h.value_fits
 
 -- it is no empty word
 pub event_word-≢-empty_word : (p : ℕ) (e : Event) (q : ℕ) → FitsEvent p e → q < 2 ^ 21 → event_word p e ≢ empty_word q
