@@ -1,6 +1,5 @@
 -- What SRC, ACK and the held events tell of a source is what the words stand for.
-use Rattle.std.proofs.Common.{◌≡◌, inl, inr, ◌⊎◌, ℕ, zero, suc, ◌+◌, ◌-◌, ◌*◌, ◌/◌, ◌%◌, ◌^◌, ◌<◌, ◌≤◌, ◌==◌, ◌&&◌, ◌||◌, cond, Bool, true, false, List, [], ◌∷◌, length, take, refl, sym, ap, ◌∙◌, subst, arith}
-use Rattle.std.specs.Prelude.{count_by}
+use Rattle.std.proofs.Common.{◌≡◌, inl, inr, ◌⊎◌, ℕ, zero, suc, ◌+◌, ◌-◌, ◌/◌, ◌%◌, ◌^◌, ◌<◌, ◌≤◌, ◌==◌, ◌||◌, Bool, true, false, List, [], ◌∷◌, length, take, refl, sym, ap, ◌∙◌, subst, arith}
 use Rattle.std.specs.Bool.{MatchBool}
 use Rattle.std.specs.List.{list_any}
 use Rattle.std.proofs.lemmas.Bool.{cases_Bool, cases_lt, and_parts, and_from, eq-eqb, eqb-true}
@@ -8,7 +7,7 @@ use Rattle.ink_base.specs.declared.event.Event.{Event}
 use Rattle.task_isa.specs.declared.program.Program.{Program}
 use Rattle.fram_words.specs.Places.{Memory, Ack, Src}
 use Rattle.fram_words.specs.Held.{src_of}
-use Rattle.push_core.specs.Queue.{Source, event_at, event_source, event_count, IsNumber, HoldsNumber, IsOneMore, StandsSource, Numbered, Stored, KeepsNumbers}
+use Rattle.push_core.specs.Queue.{event_at, event_source, event_count, IsNumber, IsOneMore, StandsSource, Numbered, Stored, KeepsNumbers}
 use Rattle.push_core.proofs.Events.{is_number, number_source, number_count}
 use Rattle.prog_check.specs.Lookup.{source_thread}
 use Rattle.never_cut.specs.Stands.{flag}
@@ -98,18 +97,18 @@ first_numbered : (i : ℕ) (e : Event) (held : List Event) (first : ℕ) (b : Bo
 first_numbered i e held first true test counts rest =
     let here : event_count e ≡ (first + 0) % 64 = counts zero (omega arith) (eqb-true _ _ test) in
     let next : AreCounted i held (first + 1) = λ j lt is.
-        counts (suc j) (omega arith) is
-        ∙ ap (λ (b : Bool). (first + (flag b + own_events i (take j held))) % 64) test
-        ∙ ap (λ n. n % 64) (let s : first + (flag true + own_events i (take j held)) ≡ first + 1 + own_events i (take j held) = omega arith in s)
+    counts (suc j) (omega arith) is
+    ∙ ap (λ (b : Bool). (first + (flag b + own_events i (take j held))) % 64) test
+    ∙ ap (λ n. n % 64) (let s : first + (flag true + own_events i (take j held)) ≡ first + 1 + own_events i (take j held) = omega arith in s)
     in (
       here ∙ ap (λ n. n % 64) (let z : first + 0 ≡ first = omega arith in z),
       subst (Numbered i held (first + 1)) (let s : first + 1 + own_events i held ≡ first + (flag true + own_events i held) = omega arith in s) (rest (first + 1) next),
     )
 first_numbered i e held first false test counts rest =
     let next : AreCounted i held first = λ j lt is.
-        counts (suc j) (omega arith) is
-        ∙ ap (λ (b : Bool). (first + (flag b + own_events i (take j held))) % 64) test
-        ∙ ap (λ n. n % 64) (let s : first + (flag false + own_events i (take j held)) ≡ first + own_events i (take j held) = omega arith in s)
+    counts (suc j) (omega arith) is
+    ∙ ap (λ (b : Bool). (first + (flag b + own_events i (take j held))) % 64) test
+    ∙ ap (λ n. n % 64) (let s : first + (flag false + own_events i (take j held)) ≡ first + own_events i (take j held) = omega arith in s)
     in subst (Numbered i held first) (let s : first + own_events i held ≡ first + (flag false + own_events i held) = omega arith in s) (rest first next)
 
 numbered : (i : ℕ) (held : List Event) (first : ℕ) → AreCounted i held first → Numbered i held first (first + own_events i held)

@@ -1,5 +1,5 @@
 -- The state that is read off an image is sound.
-use Rattle.std.proofs.Common.{◌≡◌, ◌≢◌, inl, inr, ℕ, zero, suc, ◌+◌, ◌-◌, ◌*◌, ◌/◌, ◌%◌, ◌^◌, ◌<◌, ◌≤◌, ◌==◌, Bool, true, false, List, [], ◌∷◌, length, get_or, Option, Some, None, refl, sym, ap, ◌∙◌, subst, arith}
+use Rattle.std.proofs.Common.{◌≡◌, ◌≢◌, inl, inr, ℕ, zero, suc, ◌+◌, ◌-◌, ◌^◌, ◌<◌, ◌≤◌, ◌==◌, true, false, List, length, Option, Some, None, refl, sym, ap, ◌∙◌, subst, arith}
 use Rattle.std.specs.Prelude.{if◌then◌else◌, slice_index}
 use Rattle.std.specs.Option.{ForSome}
 use Rattle.std.proofs.lemmas.Bool.{cases_lt, cases_Bool}
@@ -9,29 +9,26 @@ use Rattle.ink_base.specs.declared.event.Event.{Event}
 use Rattle.ink_base.specs.declared.event.Origin.{Origin}
 use Rattle.ink_base.specs.declared.event.Origin.TheVariants as origins
 use Rattle.task_isa.specs.declared.program.Program.{Program}
-use Rattle.fram_words.specs.Places.{Memory, Ring, Clock}
+use Rattle.fram_words.specs.Places.{Memory, Clock}
 use Rattle.fram_words.specs.Header as header
-use Rattle.fram_words.specs.Held.{next_word, origin_word, origin_of, HasOriginBits, due_word}
+use Rattle.fram_words.specs.Held.{next_word, origin_of, HasOriginBits, due_word}
 use Rattle.fram_words.proofs.ReadBack.{origin_of-origin_word}
 use Rattle.thread_state.specs.Pages.{committed}
 use Rattle.push_core.specs.Table.{greatest_tail}
 use Rattle.push_core.specs.Queue.{Queue, Source, published, event_at}
 use Rattle.prog_check.specs.Accepted.{IsAccepted}
 use Rattle.prog_check.specs.Lookup.{thread_def, pipe_def, timer_def, source_thread}
-use Rattle.ink_layout.specs.Shape.{pages_of}
 use Rattle.never_cut.specs.declared.model.Model.{Model}
 use Rattle.never_cut.specs.declared.scan_model.ScanModel.{ScanModel}
-use Rattle.never_cut.specs.State.{thread_of, pipe_of, timer_of, source_of, queue_of, source_in}
-use Rattle.never_cut.specs.Commit.{outputs_of}
-use Rattle.never_cut.specs.Entries.{Readings, readings_of, IsCalm}
-use Rattle.never_cut.specs.Stands.{flag}
+use Rattle.never_cut.specs.State.{thread_of, pipe_of, timer_of, source_of, queue_of}
+use Rattle.never_cut.specs.Entries.{Readings, readings_of}
 use Rattle.never_cut.specs.Ranges.{IsOwnOrigin, IsTaskOf}
 use Rattle.never_cut.specs.Sound.{unsettled_into, IsQueued, IsServed, IsChain, IsSoundThread, IsSoundPipe, IsSoundTimer, IsSoundSource, IsSound}
 use Rattle.never_cut.specs.ReadOff.{told_finished, told_released, told_held, told_queue, told_source, IsReadOff}
-use Rattle.never_cut.specs.Image.{HasChain, IsChainOrigin, IsChainValue, IsTakenLast, IsServedFirst, IsBlockWord, IsImage, taken_of, written_of}
-use Rattle.never_cut.specs.Worn.{IsWorn, ManyReadings, LateClock, ManyCommits, ManyServices, ManyWritten, ManyTaken, ManyPositions, listed_into}
+use Rattle.never_cut.specs.Image.{HasChain, IsChainValue, IsTakenLast, IsServedFirst, IsBlockWord, IsImage, taken_of, written_of}
+use Rattle.never_cut.specs.Worn.{IsWorn, LateClock, ManyPositions, listed_into}
 use Rattle.never_cut.specs.Images.{AreListed}
-use Rattle.never_cut.proofs.Blocks.{running_word, finished_word, first_word, outputs_word, event_words, taken_count, written_count, timer_count, period_count}
+use Rattle.never_cut.proofs.Blocks.{running_word, first_word, outputs_word, event_words, taken_count, written_count, timer_count, period_count}
 use Rattle.never_cut.proofs.ReadQueues.{events_read, finished_held}
 use Rattle.never_cut.proofs.ReadSources.{source_ordered}
 

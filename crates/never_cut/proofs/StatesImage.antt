@@ -1,8 +1,8 @@
 -- Words that stand for a sound state, and keep what an image promises beside, are an image.
-use Rattle.std.proofs.Common.{◌≡◌, ◌≢◌, ◌⊎◌, inl, inr, ℕ, zero, suc, ◌+◌, ◌-◌, ◌*◌, ◌/◌, ◌%◌, ◌^◌, ◌<◌, ◌≤◌, ◌==◌, Bool, true, false, List, [], ◌∷◌, length, take, get_or, Option, Some, None, refl, sym, ap, ◌∙◌, subst, arith}
+use Rattle.std.proofs.Common.{◌≡◌, ◌⊎◌, inl, inr, ℕ, ◌+◌, ◌-◌, ◌%◌, ◌^◌, ◌<◌, ◌≤◌, Bool, true, false, List, length, take, get_or, Option, Some, None, refl, sym, ap, ◌∙◌, subst, arith}
 use Rattle.std.specs.Prelude.{if◌then◌else◌, slice_index}
 use Rattle.std.specs.Option.{ForSome}
-use Rattle.std.proofs.lemmas.Bool.{cases_lt, cases_Bool, le-ltb}
+use Rattle.std.proofs.lemmas.Bool.{cases_lt, le-ltb}
 use Rattle.std.proofs.lemmas.List.{get_or_past, get_or-map}
 use Rattle.ink_base.specs.declared.ids.TaskId.{TaskId}
 use Rattle.ink_base.specs.declared.event.Event.{Event}
@@ -10,29 +10,29 @@ use Rattle.ink_base.specs.declared.event.Origin.{Origin}
 use Rattle.ink_base.specs.declared.event.Origin.TheVariants as origins
 use Rattle.ink_base.specs.declared.output.Output.{Output}
 use Rattle.task_isa.specs.declared.program.Program.{Program}
-use Rattle.fram_words.specs.Places.{Memory, Log, Ring, Tail, Slot, Ack, Src, Clock}
+use Rattle.fram_words.specs.Places.{Memory, Log, Ring, Tail, Slot, Ack, Src}
 use Rattle.fram_words.specs.Header as header
-use Rattle.fram_words.specs.Held.{next_word, origin_word, origin_of, due_word, output_word, src_of}
+use Rattle.fram_words.specs.Held.{next_word, origin_word, origin_of, due_word, output_word}
 use Rattle.fram_words.proofs.ReadBack.{origin_of-origin_word}
 use Rattle.thread_state.specs.Pages.{committed}
 use Rattle.push_core.specs.Slots.{empty_word}
-use Rattle.push_core.specs.Queue.{Queue, published, event_at, event_source, event_count, IsFinishing, IsOneMore, StandsSource}
+use Rattle.push_core.specs.Queue.{Queue, published, event_at, event_source, event_count, IsFinishing, StandsSource}
 use Rattle.prog_check.specs.Accepted.{IsAccepted}
-use Rattle.prog_check.specs.Lookup.{thread_def, pipe_def, timer_def, source_thread}
+use Rattle.prog_check.specs.Lookup.{thread_def, pipe_def, source_thread}
 use Rattle.never_cut.specs.declared.model.Model.{Model}
 use Rattle.never_cut.specs.State.{thread_of, pipe_of, timer_of, source_of, queue_of, source_in}
 use Rattle.never_cut.specs.Commit.{outputs_of}
 use Rattle.never_cut.specs.Entries.{Readings}
-use Rattle.never_cut.specs.Stands.{flag, saved, thread_words, writes_pipe, reads_pipe, owns_timer, Stands}
+use Rattle.never_cut.specs.Stands.{flag, saved, thread_words, owns_timer, Stands}
 use Rattle.never_cut.specs.Ranges.{IsOwnOrigin, IsTaskOf}
 use Rattle.never_cut.specs.Sound.{IsQueued, IsServed, IsChain, IsSound}
 use Rattle.never_cut.specs.Within.{Lasts}
-use Rattle.never_cut.specs.ReadOff.{told_finished, told_released, told_held, told_queue, told_source, is_one_more}
-use Rattle.never_cut.specs.Image.{HasChain, IsChainOrigin, IsTakenLast, IsChainValue, IsBlockWord, IsPipeCount, IsItemWord, IsPipeRight, stamp_at, IsLogWord, IsSlotWord, IsTailWord, IsServedFirst, IsQueueRight, own_events, held_for, IsCountWord, IsAckWord, IsSourceRight, IsImage, taken_of, written_of}
+use Rattle.never_cut.specs.ReadOff.{told_held, told_queue, told_source, is_one_more}
+use Rattle.never_cut.specs.Image.{HasChain, IsChainOrigin, IsTakenLast, IsChainValue, IsBlockWord, IsPipeRight, stamp_at, IsLogWord, IsServedFirst, IsQueueRight, own_events, held_for, IsSourceRight, taken_of, written_of}
 use Rattle.never_cut.specs.Images.{KeepsImage, EveryStateIsImage}
 use Rattle.never_cut.proofs.Blocks.{running_word, first_word, outputs_word, event_words, taken_count, written_count, written_at, taken_at, due_at, period_at, state_at, unused_at}
 use Rattle.never_cut.proofs.ReadSources.{counted, more_found, more_is}
-use Rattle.never_cut.proofs.ReadStates.{own_bits, next_some}
+use Rattle.never_cut.proofs.ReadStates.{own_bits}
 use Rattle.never_cut.proofs.ToldQueues.{is_readable, queue_told}
 
 -- what is chosen where a test holds, else 0
@@ -273,7 +273,7 @@ module _ (program : Program) (readings : Readings) (words : Memory) (m : Model) 
           counts = λ j lt own. (
             omega (arith, same.0, back.0, count),
             subst (λ (l : List Event). j < length l → event_source (event_at l j) ≡ i → event_count (event_at l j) ≡ (kept.gone + own_events i (take j l)) % 64) (sym held_is) (back.1 j) lt own
-            ∙ ap (λ n. (n + own_events i (take j (held_for program words i))) % 64) gone_is,
+                ∙ ap (λ n. (n + own_events i (take j (held_for program words i))) % 64) gone_is,
           );
           ack = elim kept.ack_is [
             | inl is ↦ inl (is ∙ ap (λ n. n % 64) gone_is)

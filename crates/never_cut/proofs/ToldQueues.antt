@@ -1,7 +1,7 @@
 -- The words of a queue tell the queue that they stand for.
-use Rattle.std.proofs.Common.{◌≡◌, ◌≢◌, inl, inr, ℕ, zero, suc, ◌+◌, ◌-◌, ◌%◌, ◌^◌, ◌<◌, ◌≤◌, ◌==◌, ◌&&◌, Bool, true, false, List, [], ◌∷◌, length, Option, Some, None, refl, sym, ap, ◌∙◌, subst, arith}
+use Rattle.std.proofs.Common.{◌≡◌, inl, inr, ℕ, zero, suc, ◌+◌, ◌-◌, ◌<◌, ◌≤◌, ◌==◌, ◌&&◌, Bool, true, false, List, [], ◌∷◌, length, Option, Some, None, refl, ap, ◌∙◌, subst, arith}
 use Rattle.std.specs.Prelude.{nat_lt, if◌then◌else◌}
-use Rattle.std.proofs.lemmas.Bool.{cases_lt, cases_Bool, and_from, eq-eqb, ne_eqb, lt-ltb, le-ltb}
+use Rattle.std.proofs.lemmas.Bool.{cases_lt, and_from, eq-eqb, ne_eqb, lt-ltb, le-ltb}
 use Rattle.ink_base.specs.declared.event.Event.{Event}
 use Rattle.ink_base.specs.declared.event.Origin.{Origin}
 use Rattle.ink_base.specs.declared.event.Origin.TheVariants as origins
@@ -11,8 +11,7 @@ use Rattle.fram_words.specs.Header as header
 use Rattle.thread_state.specs.Pages.{committed}
 use Rattle.push_core.specs.declared.slot.Slot as slot
 use Rattle.push_core.specs.declared.slot.Slot.TheVariants.{Empty, Full}
-use Rattle.push_core.specs.Table.{greatest_tail}
-use Rattle.push_core.specs.Queue.{Queue, published, event_at, event_slot}
+use Rattle.push_core.specs.Queue.{event_at, event_slot}
 use Rattle.prog_check.specs.Accepted.{IsAccepted}
 use Rattle.prog_check.specs.Lookup.{thread_def, source_thread}
 use Rattle.never_cut.specs.declared.model.Model.{Model}
@@ -102,7 +101,7 @@ module _ (program : Program) (readings : Readings) (words : Memory) (m : Model) 
             let last : ℕ = committed words t header.finished - 1 in
             let next : last + 1 ≡ (thread_of m t).released = omega (arith, ended, none) in
             let other = shown_other last (slot_of program words t last)
-                (old_slot program t (thread_def program t).queue (slots_of words t) (words (Tail t)) last (thread_of m t) is_readable next) in
+            (old_slot program t (thread_def program t).queue (slots_of words t) (words (Tail t)) last (thread_of m t) is_readable next) in
             ap (λ b. nat_lt 0 (committed words t header.finished) && b) other ∙ and_false (nat_lt 0 (committed words t header.finished))
         | inr all ↦
             ap (λ b. b && is_full_of (committed words t header.finished - 1) (slot_of program words t (committed words t header.finished - 1))) (le-ltb 0 _ all)

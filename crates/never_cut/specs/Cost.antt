@@ -5,13 +5,13 @@ use Rattle.std.specs.List.{list_any}
 use Rattle.ink_base.specs.declared.event.Event.{Event}
 use Rattle.ink_base.specs.declared.event.Origin.{Origin}
 use Rattle.ink_base.specs.declared.event.Origin.TheVariants as origins
+use Rattle.fram_words.specs.Header as header
 use Rattle.task_isa.specs.declared.instr.Instr.{Instr}
 use Rattle.task_isa.specs.declared.outcome.Outcome.{Outcome}
 use Rattle.task_isa.specs.declared.outcome.Outcome.TheVariants as outcomes
 use Rattle.task_isa.specs.declared.act.Act.{Act}
 use Rattle.task_isa.specs.declared.act.Act.TheVariants.{Loads, Saves, Puts, Sends, Arms, Stops}
 use Rattle.task_isa.specs.declared.program.Program.{Program}
-use Rattle.task_isa.specs.declared.task_start.TaskStart.{TaskStart}
 use Rattle.task_isa.specs.Acts.{Given, act_of}
 use Rattle.task_isa.specs.Meaning.{Effects, Config, Room, GoesOn, IsOver, HasTrapped, has_room, execute, instr_at, first_config, given_of, room_of}
 use Rattle.prog_check.specs.Lookup.{task_def}
@@ -45,9 +45,9 @@ with_copies x = x.accesses + 16 * pages_more [] x.writes
 
 -- the start of a service writes its time, and the event's origin and value; it counts a pipe's item as taken, and reads a timer's period and sets it on
 abbrev pub consuming : Origin → Spent
-consuming (origins.Source source count) = record { accesses = 3; writes = 2 ∷ 3 ∷ 4 ∷ [] }
-consuming (origins.Pipe pipe item) = record { accesses = 4; writes = 2 ∷ 3 ∷ 4 ∷ 18 + pipe.0 ∷ [] }
-consuming (origins.Timer timer deadline) = record { accesses = 5; writes = 2 ∷ 3 ∷ 4 ∷ 26 + 2 * timer.0 ∷ [] }
+consuming (origins.Source source count) = record { accesses = 3; writes = header.first ∷ header.origin ∷ header.value ∷ [] }
+consuming (origins.Pipe pipe item) = record { accesses = 4; writes = header.first ∷ header.origin ∷ header.value ∷ header.taken pipe.0 ∷ [] }
+consuming (origins.Timer timer deadline) = record { accesses = 5; writes = header.first ∷ header.origin ∷ header.value ∷ header.due timer.0 ∷ [] }
 
 -- a running chain's service has started
 abbrev pub starting : (running : Bool) → Origin → Spent
@@ -57,11 +57,11 @@ starting running o = if running then reads 0 else consuming o
 -- reads the number of outputs and stores the word and the number where there is room, and a send reads whether there is
 abbrev pub acting : Act → Room → Effects → Spent
 acting (Loads a n) room e = if nat_lt n (length e.state) then reads 1 else reads 0
-acting (Saves n v) room e = if nat_lt n (length e.state) then record { accesses = 1; writes = 48 + n ∷ [] } else reads 0
-acting (Puts v) room e = if nat_lt (length e.outs) room.log then record { accesses = 3; writes = 9 ∷ [] } else reads 1
-acting (Sends q a v) room e = if has_room room q e.sends then record { accesses = 5; writes = 10 + q ∷ [] } else reads 3
-acting (Arms j delay period) room e = record { accesses = 2; writes = 26 + 2 * j ∷ 27 + 2 * j ∷ [] }
-acting (Stops j) room e = record { accesses = 1; writes = 26 + 2 * j ∷ [] }
+acting (Saves n v) room e = if nat_lt n (length e.state) then record { accesses = 1; writes = header.state n ∷ [] } else reads 0
+acting (Puts v) room e = if nat_lt (length e.outs) room.log then record { accesses = 3; writes = header.outputs ∷ [] } else reads 1
+acting (Sends q a v) room e = if has_room room q e.sends then record { accesses = 5; writes = header.written q ∷ [] } else reads 3
+acting (Arms j delay period) room e = record { accesses = 2; writes = header.due j ∷ header.period j ∷ [] }
+acting (Stops j) room e = record { accesses = 1; writes = header.due j ∷ [] }
 acting _ room e = reads 0
 
 -- the instructions of a run from a configuration on, to its end or its trap; at the limit none is fetched
@@ -84,23 +84,23 @@ running_at program m t e time =
 
 -- the end of a task whose chain goes on writes the next task and the stamp
 abbrev pub continuing : Spent
-continuing = record { accesses = 2; writes = 1 ∷ 0 ∷ [] }
+continuing = record { accesses = 2; writes = header.next ∷ header.stamp ∷ [] }
 
 -- the end of a service writes that no chain runs, that a queue's event is finished, one more in its total, which it reads, and the stamp
 abbrev pub ending : (total : ℕ) → Event → Spent
-ending total e = if is_of_queue e then record { accesses = 5; writes = 1 ∷ 5 ∷ total ∷ 0 ∷ [] } else record { accesses = 4; writes = 1 ∷ total ∷ 0 ∷ [] }
+ending total e = if is_of_queue e then record { accesses = 5; writes = header.next ∷ header.finished ∷ total ∷ header.stamp ∷ [] } else record { accesses = 4; writes = header.next ∷ total ∷ header.stamp ∷ [] }
 
 -- start, run and end of a task's service; after a trap all writes are given up, and the service starts once more
 abbrev pub serving : Outcome → (start run : Spent) → Event → ℕ
 serving (outcomes.Next task) start run e = with_copies (followed_by start (followed_by run continuing))
-serving outcomes.Done start run e = with_copies (followed_by start (followed_by run (ending 6 e)))
-serving (outcomes.Trap code) start run e = with_copies (followed_by start run) + with_copies (followed_by start (ending 7 e))
+serving outcomes.Done start run e = with_copies (followed_by start (followed_by run (ending header.served e)))
+serving (outcomes.Trap code) start run e = with_copies (followed_by start run) + with_copies (followed_by start (ending header.trapped e))
 
 -- the service of a thread's event at a scan's time, and the store of the commit word; an expired chain only ends
 abbrev pub cost_of : Program → Model → (t : ℕ) → Event → (time : ℕ) → ℕ
 cost_of program m t e time =
     (if is_expired program m t time
-    then with_copies (ending 8 e)
+    then with_copies (ending header.expired e)
     else serving (end_at program m t e time).outcome (starting (is_running (thread_of m t)) e.origin) (running_at program m t e time) e)
     + 1
 

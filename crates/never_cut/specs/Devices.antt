@@ -1,5 +1,5 @@
 -- Pipes and timers by their words are those of the state that the words stand for.
-use Rattle.std.specs.Prelude.{◌≡◌, ℕ, ◌+◌, ◌%◌, ◌<◌, nat_lt, length, slice_index, Some}
+use Rattle.std.specs.Prelude.{◌≡◌, ℕ, ◌+◌, ◌<◌, nat_lt, length, slice_index, Some}
 use Rattle.task_isa.specs.declared.program.Program.{Program}
 use Rattle.task_isa.specs.declared.timer_set.TimerSet.{TimerSet}
 use Rattle.fram_words.specs.Places.{Memory, Ring}

@@ -1,6 +1,6 @@
 -- Words that a run can begin at: seven checks, in the order in which they are made. Each is told of one place after the other, the one that a reader names
 -- where the check fails there.
-use Rattle.std.specs.Prelude.{◌≡◌, ◌≢◌, ◌⊎◌, ℕ, ◌+◌, ◌-◌, ◌*◌, ◌/◌, ◌%◌, ◌^◌, ◌<◌, ◌≤◌, ◌==◌, true, false, List, [], ◌∷◌, length, take}
+use Rattle.std.specs.Prelude.{◌≡◌, ◌≢◌, ◌⊎◌, ℕ, ◌+◌, ◌-◌, ◌*◌, ◌%◌, ◌^◌, ◌<◌, ◌≤◌, ◌==◌, true, false, List, [], ◌∷◌, length, take}
 use Rattle.ink_base.specs.declared.event.Event.{Event}
 use Rattle.ink_base.specs.declared.event.Origin.{Origin}
 use Rattle.ink_base.specs.declared.event.Origin.TheVariants as origins
@@ -11,7 +11,7 @@ use Rattle.fram_words.specs.Header as header
 use Rattle.fram_words.specs.Held.{origin_word, origin_of, output_of, src_of}
 use Rattle.thread_state.specs.Pages.{committed}
 use Rattle.push_core.specs.Slots.{empty_word}
-use Rattle.push_core.specs.Queue.{Queue, published, event_at, event_source, event_count, IsFinishing}
+use Rattle.push_core.specs.Queue.{published, event_at, event_source, event_count, IsFinishing}
 use Rattle.prog_check.specs.Lookup.{thread_def, pipe_def, task_def, instr_at, source_thread}
 use Rattle.ink_layout.specs.Shape.{pages_of}
 use Rattle.never_cut.specs.Stands.{flag, writes_pipe, reads_pipe, owns_timer}
@@ -101,11 +101,11 @@ pub record IsSlotWord (program : Program) (words : Memory) (t k : ℕ) : Type 0 
 abbrev pub IsTailWord : Program → Memory → (t : ℕ) → Type 0
 IsTailWord program words t = (words (Tail t) ≡ published (told_queue program words t)) ⊎ (words (Tail t) + 1 ≡ published (told_queue program words t))
 
--- At h5: no earlier thread has a finished event beside this one's.
+-- At its number of finished events: no earlier thread has a finished event beside this one's.
 abbrev pub IsOnlyFinished : Program → Memory → (t : ℕ) → Type 0
 IsOnlyFinished program words t = told_finished program words t ≡ true → (u : ℕ) → u < t → told_finished program words u ≡ false
 
--- At h1: a thread with a finished event is idle.
+-- At its next task: a thread with a finished event is idle.
 abbrev pub IsIdleFinished : Program → Memory → (t : ℕ) → Type 0
 IsIdleFinished program words t = told_finished program words t ≡ true → committed words t header.next ≡ 0
 
@@ -116,7 +116,7 @@ IsServedFirst held (origins.Source source count) value =
 IsServedFirst held (origins.Pipe pipe item) value = Unit {0}
 IsServedFirst held (origins.Timer timer deadline) value = Unit {0}
 
--- At h3: a running chain of a source's event has the first held one.
+-- At the origin of its event: a running chain of a source's event has the first held one.
 abbrev pub IsFirstServed : Program → Memory → (t : ℕ) → Type 0
 IsFirstServed program words t =
     HasChain words t → IsServedFirst (told_held program words t) (origin_of (committed words t header.origin)) (committed words t header.value)

@@ -1,12 +1,5 @@
 -- The laws of journals, from the lemmas on each of their entries.
-use Rattle.std.specs.Prelude.{List}
-use Rattle.ink_base.specs.declared.entry.Entry.{Entry}
-use Rattle.task_isa.specs.declared.program.Program.{Program}
-use Rattle.never_cut.specs.declared.model.Model.{Model}
-use Rattle.never_cut.specs.Entries.{Readings}
-use Rattle.never_cut.specs.Journal.{IsLegal}
-use Rattle.never_cut.specs.Reached.{JournalTells, EveryJournalTells, EveryStateSound}
-use Rattle.never_cut.specs.Start.{CanStart}
+use Rattle.never_cut.specs.Reached.{EveryJournalTells}
 use Rattle.never_cut.proofs.Follows.{other_follows}
 use Rattle.never_cut.proofs.Served.{sound_turns, each_event_once}
 use Rattle.never_cut.proofs.Settled.{readings_in_order}
