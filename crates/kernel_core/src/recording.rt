@@ -23,7 +23,7 @@ pub(crate) struct Recording {
 impl Model for Recording {
     ghost Value = { Recorded };
 
-    ghost view = { λ c. record { charge = record { off = c.off; entries = c.entries.items; kernel_steps = c.kernel_steps; source_steps = c.source_steps.items; tick_steps = c.tick_steps }; spare = vec_capacity c.entries - vec_len c.entries } };
+    ghost view = { λ c. record { charge = record { off = c.off; entries = c.entries.items; kernel_steps = c.kernel_steps; source_steps = c.source_steps.items; tick_steps = c.tick_steps }; spare = vec_capacity c.entries - vec_len c.entries; capacity = vec_capacity c.entries } };
 }
 
 impl Recording {
