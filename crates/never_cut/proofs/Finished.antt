@@ -62,7 +62,7 @@ one_step program readings m (Tick by) accepted sound legal one = one
 one_step program readings m Scan accepted sound legal one = one
 one_step program readings m (Look t) accepted sound legal one = one
 one_step program readings m (Commit t) accepted sound legal one =
-    let calm : IsCalm program m = calm_in program m (λ scan. ArePassed program m scan t.0) m.scan refl sound.calm legal.1.0 in
+    let calm : IsCalm program m = calm_in program m (λ scan. ArePassed program m scan t.0) m.scan refl sound.calm legal.1 in
     alone_finished program (effect program readings m (Commit t)) t.0
     (λ u known apart. ap (λ (x : ThreadModel). x.finished) (commit-other program t.0 u m apart) ∙ calm u known)
 one_step program readings m (Release t) accepted sound legal one =
