@@ -100,7 +100,7 @@ queued_first : (program : Program) (readings : Readings) (words : Memory) (m : M
 queued_first program readings words m t e b known first =
     let x = b.sound.threads t known in
     let some : 0 < length (thread_of m t).held = rw first.1 (omega arith) in
-    subst (IsQueued program t) (ap (λ l. Rattle.never_cut.specs.Stands.event_at l 0) first.1) (x.queued 0 some)
+    subst (IsQueued program t) (ap (λ l. Rattle.push_core.specs.Queue.event_at l 0) first.1) (x.queued 0 some)
 
 -- and needs no word of a pipe or a timer
 queue_loaded : (program : Program) (t : ℕ) (o : origin.Origin) (value : ℕ) (pick : Pick) → IsQueued program t (record { origin = o; value = value }) →
