@@ -49,7 +49,7 @@ pub one_step : (program : Program) (readings : Readings) (m : Model) (e : Entry)
     AtMostOneFinished program m → AtMostOneFinished program (effect program readings m e)
 one_step program readings m (Push i) accepted sound legal one =
     let changes = thread_changes program m (effect program readings m (Push i)) (source_thread program i.0) (pushed (next_event readings m i.0) (fed_by program m i.0))
-        (rw sound.shape.threads (accepted.sources i.0 legal.0)) refl in
+    (rw sound.shape.threads (accepted.sources i.0 legal.0)) refl in
     same_finished program m (effect program readings m (Push i))
     (λ u known. elim (cases_eq u (source_thread program i.0)) [
       | inl e ↦ ap (λ v. (thread_of (effect program readings m (Push i)) v).finished) e ∙ (ap (λ (x : ThreadModel). x.finished) changes.0 ∙ ap (λ v. (thread_of m v).finished) (sym e))
@@ -62,7 +62,7 @@ one_step program readings m (Tick by) accepted sound legal one = one
 one_step program readings m Scan accepted sound legal one = one
 one_step program readings m (Look t) accepted sound legal one = one
 one_step program readings m (Commit t) accepted sound legal one =
-    let calm : IsCalm program m = calm_in program m (λ scan. ArePassed program m scan t.0) m.scan refl sound.calm legal.1.0 in
+    let calm : IsCalm program m = calm_in program m (λ scan. ArePassed program m scan t.0) m.scan refl sound.calm legal.1 in
     alone_finished program (effect program readings m (Commit t)) t.0
     (λ u known apart. ap (λ (x : ThreadModel). x.finished) (commit-other program t.0 u m apart) ∙ calm u known)
 one_step program readings m (Release t) accepted sound legal one =
