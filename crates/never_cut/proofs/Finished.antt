@@ -49,7 +49,7 @@ pub one_step : (program : Program) (readings : Readings) (m : Model) (e : Entry)
     AtMostOneFinished program m → AtMostOneFinished program (effect program readings m e)
 one_step program readings m (Push i) accepted sound legal one =
     let changes = thread_changes program m (effect program readings m (Push i)) (source_thread program i.0) (pushed (next_event readings m i.0) (fed_by program m i.0))
-        (rw sound.shape.threads (accepted.sources i.0 legal.0)) refl in
+    (rw sound.shape.threads (accepted.sources i.0 legal.0)) refl in
     same_finished program m (effect program readings m (Push i))
     (λ u known. elim (cases_eq u (source_thread program i.0)) [
       | inl e ↦ ap (λ v. (thread_of (effect program readings m (Push i)) v).finished) e ∙ (ap (λ (x : ThreadModel). x.finished) changes.0 ∙ ap (λ v. (thread_of m v).finished) (sym e))

@@ -1,4 +1,5 @@
-use Rattle.std.proofs.Common.{◌≡◌, length, map, drop, set, refl, ap, ◌∙◌, arith}
+-- Each element that was passed is emptied, and the others are as they were.
+use Rattle.std.proofs.Common.{◌≡◌, length, map, drop, set, refl, sym, ap, ◌∙◌, arith}
 use Rattle.std.proofs.lemmas.List.{take_at}
 use Rattle.std.proofs.lemmas.List.Edits.{map_over_more}
 use Rattle.kernel_core.specs.kept.Recorded.{Recorded, emptied}
@@ -10,8 +11,8 @@ loop-charge-init c = refl
 
 pub loop-charge-preserved : goal.loop-charge-preserved
 loop-charge-preserved c =
-    ap (λ (z : Recorded). set c.loop-charge.charge-items c.loop-charge.charge-index z) c.clear.ensures
-    ∙ map_over_more emptied c.deref_mut-charge-items.result.now c.loop-charge.charge-items c.loop-charge.charge-index _ c.loop-charge-test.true c.loop-charge.invariant ?
+    ap (λ (z : Recorded). set c.loop-charge.charge-items c.loop-charge.charge-index z) (c.clear.ensures ∙ ap (λ (z : Recorded). emptied z) (sym c.charge-item.is))
+    ∙ map_over_more emptied c.deref_mut-charge-items.result.now c.loop-charge.charge-items c.loop-charge.charge-index c.charge-item.result c.loop-charge-test.true c.loop-charge.invariant c.charge-item.is
 
 pub returns : goal.returns
 returns c =
