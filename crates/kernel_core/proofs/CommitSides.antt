@@ -15,7 +15,7 @@ use Rattle.never_cut.specs.declared.thread_model.ThreadModel.{ThreadModel}
 use Rattle.never_cut.specs.declared.scan_model.ScanModel.{ScanModel}
 use Rattle.never_cut.specs.State.{thread_of, queue_of, source_in, is_running, no_thread, no_source}
 use Rattle.never_cut.specs.Pending.{pending}
-use Rattle.never_cut.specs.Picked.{IsPicked}
+use Rattle.never_cut.specs.kept.Picked.{IsPicked}
 use Rattle.never_cut.specs.Commit.{commit, committed, consumed, ended, end_at, expired, expired_after, is_expired, is_of_queue, thread_after, with_end, with_first}
 use Rattle.fram_words.specs.Places.{Memory}
 use Rattle.ink_layout.specs.declared.pick.Pick.{Pick}

@@ -19,7 +19,7 @@ use Rattle.ink_layout.specs.Points.{entry_of_point}
 use Rattle.ink_layout.specs.Shape.{IsOnBoard}
 use Rattle.ink_layout.proofs.Regions.{valid, below}
 use Rattle.never_cut.specs.declared.model.Model.{Model}
-use Rattle.never_cut.specs.Actors.{IsAllowed}
+use Rattle.never_cut.specs.kept.Actors.{IsAllowed}
 use Rattle.never_cut.specs.Within.{Lasts}
 use Rattle.never_cut.proofs.Lasting.{lasts_less}
 use Rattle.push_core.specs.declared.pusher.Pusher.{Pusher}
@@ -99,7 +99,7 @@ module _ (job : JobParts) (l : Layout) (b : Board) (room : ℕ) (ps : List Pushe
       by_kernel k (subst (λ z. Rattle.kernel_core.specs.kept.Holds.KernelHolds job.program (memory (setup_of job) b) (state (setup_of job) b) z) is h.holds.registers) bg
     where
       by_kernel : (k : Kernel) → Rattle.kernel_core.specs.kept.Holds.KernelHolds job.program (memory (setup_of job) b) (state (setup_of job) b) k →
-          Rattle.never_cut.specs.Steps.Background job.program job.readings (memory (setup_of job) b) (state (setup_of job) b) →
+          Rattle.never_cut.specs.kept.Steps.Background job.program job.readings (memory (setup_of job) b) (state (setup_of job) b) →
           CanWant job.program k × CanTake job.program k (answer (memory (setup_of job) b) (wants job.program k))
       by_kernel (kernels.Boot boot) r bg =
           let in_range = boot_in_range job.program job.readings (memory (setup_of job) b) (state (setup_of job) b) boot bg r.0 in (in_range.row, (in_range.row, in_range.word))

@@ -12,7 +12,7 @@ use Rattle.fram_words.proofs.Accesses.{performed_there, performed_length}
 use Rattle.ink_layout.proofs.Regions.{valid, below}
 use Rattle.push_core.specs.declared.row.Row.{Row}
 use Rattle.push_core.specs.Table.{first_row}
-use Rattle.source_laws.specs.Kept.{Kept}
+use Rattle.source_laws.specs.kept.Kept.{Kept}
 use Rattle.source_laws.specs.Steps as steps
 use Rattle.source_laws.proofs.Steps.{kept_step}
 use Rattle.never_cut.specs.declared.model.Model.{Model}
@@ -20,8 +20,8 @@ use Rattle.never_cut.specs.Journal.{after, moved, noted}
 use Rattle.never_cut.specs.Within.{Lasts}
 use Rattle.never_cut.proofs.Journals.{after-noted}
 use Rattle.never_cut.specs.Stands.{StandsPrivate}
-use Rattle.never_cut.specs.Steps.{Background}
-use Rattle.never_cut.specs.Actors.{SamePrivate, IsPrivate}
+use Rattle.never_cut.specs.kept.Steps.{Background}
+use Rattle.never_cut.specs.kept.Actors.{SamePrivate, IsPrivate}
 use Rattle.never_cut.proofs.Follows.{follow_private}
 use Rattle.reboot.proofs.Boots.{boot_begins}
 use Rattle.kernel_core.specs.Kernel.{first_kernel}

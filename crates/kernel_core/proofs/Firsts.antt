@@ -15,7 +15,7 @@ use Rattle.ink_layout.proofs.Regions.{in_rest}
 use Rattle.ink_layout.specs.Image.{IsFirstImage}
 use Rattle.push_core.specs.Table.{first_row}
 use Rattle.push_core.specs.Queue.{open_queue}
-use Rattle.source_laws.specs.Kept.{State}
+use Rattle.source_laws.specs.Stands.{State}
 use Rattle.source_laws.specs.Steps.{IsFirst, IsStart}
 use Rattle.source_laws.proofs.Runs.{start_first, kept_start}
 use Rattle.never_cut.specs.State.{queue_of, source_in, no_thread, no_source, open_model, open_thread, open_source}

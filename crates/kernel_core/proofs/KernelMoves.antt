@@ -15,9 +15,9 @@ use Rattle.never_cut.specs.State.{thread_of}
 use Rattle.never_cut.specs.Commit.{committed}
 use Rattle.never_cut.specs.Entries.{effect}
 use Rattle.never_cut.specs.Journal.{moved}
-use Rattle.never_cut.specs.Actors.{IsAllowed}
-use Rattle.never_cut.specs.Steps.{Background}
-use Rattle.never_cut.specs.Picked.{IsPicked}
+use Rattle.never_cut.specs.kept.Actors.{IsAllowed}
+use Rattle.never_cut.specs.kept.Steps.{Background}
+use Rattle.never_cut.specs.kept.Picked.{IsPicked}
 use Rattle.reboot.specs.Boot.{boot_wants, boot_point}
 use Rattle.reboot.specs.declared.boot_at.BootAt.{BootAt}
 use Rattle.reboot.specs.declared.boot_at.BootAt.TheVariants as boot

@@ -14,9 +14,9 @@ use Rattle.never_cut.specs.Entries.{Readings}
 use Rattle.never_cut.specs.State.{thread_of}
 use Rattle.never_cut.specs.Sound.{IsQueued}
 use Rattle.push_core.specs.Queue.{event_at}
-use Rattle.never_cut.specs.Steps.{Background}
+use Rattle.never_cut.specs.kept.Steps.{Background}
 use Rattle.never_cut.specs.Within.{Lasts}
-use Rattle.never_cut.specs.Actors.{IsFinishing}
+use Rattle.never_cut.specs.kept.Actors.{IsFinishing}
 use Rattle.reboot.specs.Boot.{boot_wants}
 use Rattle.reboot.specs.Knows.{BootKnows}
 use Rattle.reboot.specs.declared.boot_at.BootAt.{BootAt}

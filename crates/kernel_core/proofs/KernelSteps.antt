@@ -15,7 +15,7 @@ use Rattle.never_cut.specs.declared.thread_model.ThreadModel.{ThreadModel}
 use Rattle.never_cut.specs.declared.source_model.SourceModel.{SourceModel}
 use Rattle.never_cut.specs.State.{thread_of, queue_of, source_in, no_thread, no_source}
 use Rattle.never_cut.specs.Entries.{effect, released}
-use Rattle.never_cut.specs.Actors.{IsAllowedStore}
+use Rattle.never_cut.specs.kept.Actors.{IsAllowedStore}
 use Rattle.kernel_core.specs.Board.{Setup, sides}
 use Rattle.kernel_core.specs.Views.{sides_of, seen}
 use Rattle.kernel_core.proofs.Sides.{Becomes-queue}

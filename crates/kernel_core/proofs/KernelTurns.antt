@@ -12,7 +12,7 @@ use Rattle.ink_layout.specs.Points.{entry_of_point}
 use Rattle.never_cut.specs.declared.model.Model.{Model}
 use Rattle.never_cut.specs.Journal.{moved, MayNote}
 use Rattle.never_cut.specs.Sound.{IsSound}
-use Rattle.never_cut.specs.Steps.{Background, IsKept}
+use Rattle.never_cut.specs.kept.Steps.{Background, IsKept}
 use Rattle.never_cut.specs.Within.{Lasts}
 use Rattle.never_cut.proofs.SoundStates.{sound_step}
 use Rattle.reboot.specs.Boot.{boot_stamp, boot_wants, boot_takes, boot_point}

@@ -23,7 +23,7 @@ use Rattle.never_cut.specs.declared.thread_model.ThreadModel.{ThreadModel}
 use Rattle.never_cut.specs.State.{thread_of, source_of, no_thread, with_thread, with_source}
 use Rattle.never_cut.specs.Entries.{effect, pushed, next_event, with_accepted, with_refused, with_skipped}
 use Rattle.never_cut.specs.Journal.{moved, MayNote}
-use Rattle.never_cut.specs.Actors.{SamePrivate, IsPrivate, Follows, without_held}
+use Rattle.never_cut.specs.kept.Actors.{SamePrivate, IsPrivate, Follows, without_held}
 use Rattle.never_cut.proofs.Follows.{same_follows, push_follows}
 use Rattle.reboot.proofs.Drifts.{boot_drifts}
 use Rattle.priority_sched.proofs.Drifts.{scan_drifts}

@@ -9,13 +9,14 @@ use Rattle.task_isa.specs.declared.program.Program.{Program}
 use Rattle.prog_check.specs.Accepted.{IsAccepted}
 use Rattle.prog_check.specs.Lookup.{thread_def, no_thread_def, source_thread}
 use Rattle.push_core.specs.declared.row.Row.{Row}
-use Rattle.source_laws.specs.Kept.{Kept, IsWithin}
+use Rattle.source_laws.specs.Stands.{IsWithin}
+use Rattle.source_laws.specs.kept.Kept.{Kept}
 use Rattle.never_cut.specs.declared.model.Model.{Model}
 use Rattle.never_cut.specs.declared.thread_model.ThreadModel.{ThreadModel}
 use Rattle.never_cut.specs.declared.source_model.SourceModel.{SourceModel}
 use Rattle.never_cut.specs.State.{queue_of, source_in, no_thread, no_source}
 use Rattle.never_cut.specs.Sound.{IsSound}
-use Rattle.never_cut.specs.Actors.{StandsForKernel}
+use Rattle.never_cut.specs.kept.Actors.{StandsForKernel}
 use Rattle.never_cut.specs.Within.{AreShort}
 use Rattle.never_cut.proofs.SoundStates.{published_bound}
 use Rattle.kernel_core.specs.Board.{Setup, sides}

@@ -7,8 +7,8 @@ use Rattle.push_core.specs.declared.stage.Stage.{Stage}
 use Rattle.push_core.specs.declared.stage.Stage.TheVariants.{LoadSrc, LoadSlots, LoadAck, LoadTail, LoadSlot, Publish, MoveTail, HelpTail, StoreSkip, StoreAccepted}
 use Rattle.source_laws.specs.Rows.{access, access_at}
 use Rattle.source_laws.specs.Model.{places_for, Near}
-use Rattle.source_laws.specs.Kept.{Kept}
-use Rattle.source_laws.specs.Knows.{KnowsAt}
+use Rattle.source_laws.specs.kept.Kept.{Kept}
+use Rattle.source_laws.specs.kept.Knows.{KnowsAt}
 use Rattle.ink_layout.specs.Shape.{IsOnBoard}
 use Rattle.never_cut.specs.declared.model.Model.{Model}
 use Rattle.kernel_core.specs.Board.{Setup, sides}

@@ -18,7 +18,7 @@ use Rattle.push_core.specs.declared.row.Row.{Row}
 use Rattle.push_core.specs.declared.point.Point.{Point}
 use Rattle.push_core.specs.Table.{first_row, take_of, point_of, is_left, IsLeft}
 use Rattle.source_laws.specs.Rows.{access, port_of}
-use Rattle.source_laws.specs.Kept.{Kept}
+use Rattle.source_laws.specs.kept.Kept.{Kept}
 use Rattle.source_laws.specs.Steps.{SourceStep}
 use Rattle.source_laws.proofs.Steps.{source_step, kept_step}
 use Rattle.source_laws.proofs.Ports.{access_of-port}
@@ -30,7 +30,7 @@ use Rattle.never_cut.specs.Commit.{committed, commit, expired, ended, end_at, co
 use Rattle.never_cut.specs.Entries.{readings_of}
 use Rattle.never_cut.specs.Journal.{noted, moved, MayNote, IsLegal, after}
 use Rattle.never_cut.specs.Stands.{StandsPrivate}
-use Rattle.never_cut.specs.Steps.{Background}
+use Rattle.never_cut.specs.kept.Steps.{Background}
 use Rattle.never_cut.proofs.Journals.{after-noted, IsLegal-noted}
 use Rattle.never_cut.specs.Within.{Lasts}
 use Rattle.never_cut.proofs.Lasting.{lasts_step, lasts_less}
@@ -205,7 +205,7 @@ source_made_goes s count b i g h some lt left =
     } in
     let kept = source_step (sides s) (seen (memory s b) (state s b) (row_of b)) (seen (perform (memory s b) (access (sides s) i (row_of b i))) next (row_of board)) i (within s g) lt h.kept step in
     let legal : MayNote s.program s.readings (state s b) (entry_of_source i p) = point_legal s (state s b) i known fed p lt kept.0 in
-    let same = λ (q : Place) (own : Rattle.never_cut.specs.Actors.IsPrivate q). source_beside (sides s) (memory s b) i (row_of b i).accepted (row_of b i).next (row_of b i).stage q (private_beside q own) in
+    let same = λ (q : Place) (own : Rattle.never_cut.specs.kept.Actors.IsPrivate q). source_beside (sides s) (memory s b) i (row_of b i).accepted (row_of b i).next (row_of b i).stage q (private_beside q own) in
     let follows = point_follows s (state s b) i p fed in
     subst (λ (z : Access × ℕ). Goes s count b (source_turned s b i z.0 z.1) 1)
     (sym (λ k. (

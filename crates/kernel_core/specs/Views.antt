@@ -3,7 +3,7 @@ use Rattle.std.specs.Prelude.{ℕ}
 use Rattle.fram_words.specs.Places.{Memory}
 use Rattle.push_core.specs.declared.row.Row.{Row}
 use Rattle.source_laws.specs.Model as sources
-use Rattle.source_laws.specs.Kept.{State}
+use Rattle.source_laws.specs.Stands.{State}
 use Rattle.never_cut.specs.declared.model.Model.{Model}
 use Rattle.never_cut.specs.State.{thread_of, queue_of}
 use Rattle.never_cut.specs.Sound.{sources_in}

@@ -13,7 +13,7 @@ use Rattle.never_cut.specs.State.{thread_of, pipe_of, timer_of, is_looked, unfin
 use Rattle.never_cut.specs.Pending.{first_number, first_of, has_item, has_due, is_due_by, item_event, timer_event, due_event, later_event, pending}
 use Rattle.push_core.specs.Queue.{event_at}
 use Rattle.never_cut.specs.Sound.{IsQueued}
-use Rattle.never_cut.specs.Actors.{IsFirstHeld}
+use Rattle.never_cut.specs.kept.Actors.{IsFirstHeld}
 use Rattle.never_cut.proofs.Timely.{first_number_holds, and_right}
 use Rattle.never_cut.proofs.Picks.{pending-idle}
 

@@ -14,7 +14,7 @@ use Rattle.never_cut.specs.State.{thread_of}
 use Rattle.never_cut.specs.Entries.{Readings, Legal, effect, IsCalm, ArePassed, pushed, fed_by, next_event}
 use Rattle.never_cut.specs.Journal.{after, IsLegal, moved, MayNote}
 use Rattle.never_cut.specs.Sound.{IsSound}
-use Rattle.never_cut.specs.Actors.{Follows}
+use Rattle.never_cut.specs.kept.Actors.{Follows}
 use Rattle.never_cut.specs.Within.{AreShort}
 use Rattle.never_cut.specs.Finished.{AtMostOneFinished}
 use Rattle.never_cut.proofs.Follows.{follow_finished}

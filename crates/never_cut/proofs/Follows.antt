@@ -19,7 +19,7 @@ use Rattle.never_cut.specs.State.{thread_of, source_of, no_thread, with_thread, 
 use Rattle.never_cut.specs.Entries.{Readings, IsCalm, Legal, effect, pushed, next_event, with_accepted, with_refused, with_skipped}
 use Rattle.never_cut.specs.Sound.{IsSound}
 use Rattle.never_cut.specs.Stands.{flag, StandsPrivate}
-use Rattle.never_cut.specs.Actors.{SamePrivate, IsOther, Follows, IsFirstHeld, IsFinishing, without_held}
+use Rattle.never_cut.specs.kept.Actors.{SamePrivate, IsOther, Follows, IsFirstHeld, IsFinishing, without_held}
 use Rattle.never_cut.proofs.Privates.{SamePrivately, private_stays, blocks_same}
 use Rattle.never_cut.proofs.Releases.{saved_by}
 use Rattle.never_cut.proofs.Threads.{thread_of-with_same, thread_of-with_other}

@@ -9,7 +9,7 @@ use Rattle.never_cut.specs.declared.model.Model.{Model}
 use Rattle.never_cut.specs.Commit.{start_at, end_at}
 use Rattle.never_cut.specs.Entries.{Readings}
 use Rattle.never_cut.specs.Sound.{IsSound}
-use Rattle.never_cut.specs.Picked.{IsPicked}
+use Rattle.never_cut.specs.kept.Picked.{IsPicked}
 use Rattle.never_cut.proofs.TaskRuns.{IsFittingEnd}
 use Rattle.never_cut.proofs.SoundParts.{parts_of}
 use Rattle.never_cut.proofs.SoundCommits.{end_fits_at}

@@ -13,7 +13,7 @@ use Rattle.never_cut.specs.State.{thread_of, pipe_of}
 use Rattle.never_cut.specs.Entries.{Readings}
 use Rattle.push_core.specs.Queue.{event_at}
 use Rattle.never_cut.specs.Sound.{IsSound, IsSoundPipe, IsQueued, IsServed, IsChain}
-use Rattle.never_cut.specs.Picked.{IsPicked}
+use Rattle.never_cut.specs.kept.Picked.{IsPicked}
 use Rattle.never_cut.proofs.Picks.{pending-running}
 use Rattle.never_cut.proofs.Beginnings.{Begins, begins}
 

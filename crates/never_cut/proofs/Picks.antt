@@ -14,8 +14,8 @@ use Rattle.never_cut.specs.State.{thread_of, is_looked, unfinished}
 use Rattle.never_cut.specs.Pending.{pending, pending_in, later_event, first_of}
 use Rattle.ink_base.specs.declared.ids.TaskId.{TaskId}
 use Rattle.never_cut.specs.Entries.{IsPassed}
-use Rattle.never_cut.specs.Actors.{SamePrivate, Follows, IsFirstHeld}
-use Rattle.never_cut.specs.Picked.{IsPicked}
+use Rattle.never_cut.specs.kept.Actors.{SamePrivate, Follows, IsFirstHeld}
+use Rattle.never_cut.specs.kept.Picked.{IsPicked}
 use Rattle.never_cut.proofs.Follows.{with_parts, follow_finished, follow_released, follow_running, follow_event, follow_first, follow_first_commit, follow_calm}
 
 -- the pending event is that of the scan

@@ -13,7 +13,7 @@ use Rattle.never_cut.specs.declared.pipe_model.PipeModel.{PipeModel}
 use Rattle.never_cut.specs.State.{thread_of, no_pipe}
 use Rattle.never_cut.specs.Commit.{outputs_of}
 use Rattle.never_cut.specs.Stands.{saved, thread_words, log_of, AreLogged, StandsThread, StandsPipe, StandsPrivate}
-use Rattle.never_cut.specs.Actors.{SamePrivate}
+use Rattle.never_cut.specs.kept.Actors.{SamePrivate}
 
 -- the words that blocks, logs, rings and code have are as they were
 pub record SameBlocks (old new : Memory) : Type 0 where

@@ -15,7 +15,7 @@ use Rattle.never_cut.specs.Entries.{released}
 use Rattle.never_cut.specs.Stands.{Saved, saved, flag, written_word, taken_word, timer_word, period_word, slots_of, StandsPrivate}
 use Rattle.push_core.specs.Queue.{published, StandsQueue}
 use Rattle.push_core.proofs.Queues.{queue_same, queue_release}
-use Rattle.never_cut.specs.Actors.{StandsForKernel}
+use Rattle.never_cut.specs.kept.Actors.{StandsForKernel}
 use Rattle.never_cut.proofs.Threads.{thread_of-with_same, thread_of-with_other}
 use Rattle.never_cut.proofs.Privates.{SamePrivately, private_stays, slot_blocks}
 

@@ -5,7 +5,7 @@ use Rattle.fram_words.specs.Places.{Memory}
 use Rattle.never_cut.specs.declared.model.Model.{Model}
 use Rattle.never_cut.specs.declared.scan_model.ScanModel.{ScanModel}
 use Rattle.never_cut.specs.Stands.{StandsPrivate}
-use Rattle.never_cut.specs.Actors.{StandsForKernel}
+use Rattle.never_cut.specs.kept.Actors.{StandsForKernel}
 use Rattle.never_cut.proofs.Privates.{SamePrivately, private_stays, same_blocks}
 
 abbrev pub with_scan : Model → Option ScanModel → Model

@@ -18,7 +18,7 @@ use Rattle.never_cut.specs.Entries.{Readings}
 use Rattle.never_cut.specs.Stands.{slots_of}
 use Rattle.push_core.specs.Queue.{StandsQueue, event_slot, event_at, published}
 use Rattle.never_cut.specs.Sound.{IsQueued}
-use Rattle.never_cut.specs.Steps.{Background}
+use Rattle.never_cut.specs.kept.Steps.{Background}
 
 -- the slots of a thread's queue stand for its events, and all numbers fit their bits
 pub record IsReadable (program : Program) (t places : ℕ) (slot : ℕ → ℕ) (tail : ℕ) (x : ThreadModel) : Type 0 where

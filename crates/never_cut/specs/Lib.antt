@@ -6,9 +6,6 @@ pub mod Entries
 pub mod Journal
 pub mod Stands
 pub mod Sound
-pub mod Actors
-pub mod Steps
-pub mod Picked
 pub mod Within
 pub mod Replaying
 pub mod Replay
@@ -25,3 +22,4 @@ pub mod Reached
 pub mod Cost
 pub mod Bounds
 pub mod Devices
+pub mod kept

@@ -10,7 +10,7 @@ use Rattle.never_cut.specs.State.{thread_of, queue_of}
 use Rattle.never_cut.specs.Entries.{Readings, Legal, effect}
 use Rattle.never_cut.specs.Journal.{after, IsLegal}
 use Rattle.never_cut.specs.Sound.{IsSound}
-use Rattle.never_cut.specs.Actors.{IsOther, Follows}
+use Rattle.never_cut.specs.kept.Actors.{IsOther, Follows}
 use Rattle.never_cut.specs.Within.{AreReadings, AreShort, HasRoom}
 use Rattle.never_cut.specs.Laws.{ReadingsInOrder, EachEventOnce, StatesByCommits, StampsByCommits}
 use Rattle.never_cut.specs.Start.{CanStart}

@@ -20,8 +20,8 @@ use Rattle.never_cut.specs.Entries.{Readings, IsCalm}
 use Rattle.never_cut.specs.Sound.{IsSound, IsChain, IsServed, IsQueued}
 use Rattle.never_cut.specs.Within.{Lasts}
 use Rattle.push_core.specs.Queue.{event_at}
-use Rattle.never_cut.specs.Actors.{IsFirstHeld}
-use Rattle.never_cut.specs.Steps.{Background}
+use Rattle.never_cut.specs.kept.Actors.{IsFirstHeld}
+use Rattle.never_cut.specs.kept.Steps.{Background}
 use Rattle.never_cut.proofs.Picks.{pending-running}
 use Rattle.priority_sched.specs.declared.chain.Chain.{Chain}
 use Rattle.priority_sched.specs.declared.scan_at.ScanAt.TheVariants.{Origin, Value, First, Picked}

@@ -10,7 +10,7 @@ use Rattle.never_cut.specs.declared.pipe_model.PipeModel.{PipeModel}
 use Rattle.never_cut.specs.declared.timer_model.TimerModel.{TimerModel}
 use Rattle.never_cut.specs.State.{thread_of, pipe_of, no_pipe}
 use Rattle.never_cut.specs.Pending.{has_item, has_due}
-use Rattle.never_cut.specs.Actors.{SamePrivate, Follows}
+use Rattle.never_cut.specs.kept.Actors.{SamePrivate, Follows}
 use Rattle.never_cut.proofs.Follows.{follow_released, follow_running, follow_calm}
 use Rattle.never_cut.proofs.Picks.{passed_follows, picked_follows}
 use Rattle.priority_sched.specs.declared.chain.Chain.{Chain}

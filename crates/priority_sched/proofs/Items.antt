@@ -18,7 +18,7 @@ use Rattle.never_cut.specs.State.{pipe_of}
 use Rattle.never_cut.specs.Pending.{first_number, pending, has_item, has_due, item_event}
 use Rattle.never_cut.specs.Entries.{Readings, IsCalm}
 use Rattle.never_cut.specs.Stands.{StandsPrivate}
-use Rattle.never_cut.specs.Steps.{Background}
+use Rattle.never_cut.specs.kept.Steps.{Background}
 use Rattle.never_cut.proofs.Picks.{pending-later}
 use Rattle.priority_sched.specs.declared.idle.Idle.{Idle}
 use Rattle.priority_sched.specs.declared.idle.Waiting.{Waiting}

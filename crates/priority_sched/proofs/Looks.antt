@@ -19,9 +19,9 @@ use Rattle.never_cut.specs.State.{thread_of}
 use Rattle.never_cut.specs.Entries.{Readings, IsPassed, InScan, MayLook, looked}
 use Rattle.never_cut.specs.Journal.{moved}
 use Rattle.never_cut.specs.Sound.{IsQueued}
-use Rattle.never_cut.specs.Actors.{IsFirstHeld}
-use Rattle.never_cut.specs.Picked.{IsLoaded}
-use Rattle.never_cut.specs.Steps.{Background, IsKept}
+use Rattle.never_cut.specs.kept.Actors.{IsFirstHeld}
+use Rattle.never_cut.specs.kept.Picked.{IsLoaded}
+use Rattle.never_cut.specs.kept.Steps.{Background, IsKept}
 use Rattle.never_cut.proofs.Scans.{with_scan, scan_private, scan_queues}
 use Rattle.never_cut.proofs.Slots.{readable, first_slot, empty_slot}
 use Rattle.never_cut.proofs.Picks.{pending-first}

@@ -17,7 +17,7 @@ use Rattle.never_cut.specs.Entries.{Readings, IsCalm}
 use Rattle.push_core.specs.Queue.{published}
 use Rattle.never_cut.specs.Sound.{IsSound, IsSoundPipe}
 use Rattle.never_cut.specs.Within.{Lasts}
-use Rattle.never_cut.specs.Steps.{Background}
+use Rattle.never_cut.specs.kept.Steps.{Background}
 use Rattle.never_cut.proofs.Blocks.{running_word}
 use Rattle.priority_sched.specs.declared.chain.Chain.{Chain}
 use Rattle.priority_sched.specs.declared.idle.Waiting.{Waiting}

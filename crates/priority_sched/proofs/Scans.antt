@@ -14,7 +14,7 @@ use Rattle.never_cut.specs.declared.scan_model.ScanModel.{ScanModel}
 use Rattle.never_cut.specs.State.{thread_of}
 use Rattle.never_cut.specs.Entries.{Readings, IsCalm}
 use Rattle.never_cut.specs.Stands.{flag}
-use Rattle.never_cut.specs.Steps.{Background, IsKept}
+use Rattle.never_cut.specs.kept.Steps.{Background, IsKept}
 use Rattle.never_cut.specs.Within.{Lasts}
 use Rattle.never_cut.proofs.Scans.{with_scan, scan_private, scan_queues}
 use Rattle.never_cut.proofs.Blocks.{running_word, finished_word}

@@ -17,7 +17,7 @@ use Rattle.never_cut.specs.State.{timer_of}
 use Rattle.never_cut.specs.Pending.{first_number, pending, has_item, has_due, is_due_by, due_event, timer_event}
 use Rattle.never_cut.specs.Entries.{Readings, IsCalm}
 use Rattle.never_cut.specs.Stands.{StandsPrivate}
-use Rattle.never_cut.specs.Steps.{Background}
+use Rattle.never_cut.specs.kept.Steps.{Background}
 use Rattle.never_cut.proofs.Picks.{pending-later}
 use Rattle.priority_sched.specs.declared.idle.Idle.{Idle}
 use Rattle.priority_sched.specs.declared.scan_at.ScanAt.TheVariants.{Timer, Picked}

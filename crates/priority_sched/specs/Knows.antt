@@ -12,8 +12,8 @@ use Rattle.never_cut.specs.State.{thread_of, pipe_of, is_looked}
 use Rattle.never_cut.specs.Pending.{has_item, has_due}
 use Rattle.never_cut.specs.Entries.{Readings, IsCalm, IsPassed, ArePassed}
 use Rattle.never_cut.specs.Journal.{moved}
-use Rattle.never_cut.specs.Steps.{IsKept}
-use Rattle.never_cut.specs.Picked.{IsPicked}
+use Rattle.never_cut.specs.kept.Steps.{IsKept}
+use Rattle.never_cut.specs.kept.Picked.{IsPicked}
 use Rattle.priority_sched.specs.declared.chain.Chain.{Chain}
 use Rattle.priority_sched.specs.declared.idle.Idle.{Idle}
 use Rattle.priority_sched.specs.declared.idle.Waiting.{Waiting}

@@ -6,10 +6,10 @@ use Rattle.never_cut.specs.declared.model.Model.{Model}
 use Rattle.never_cut.specs.declared.scan_model.ScanModel.{ScanModel}
 use Rattle.never_cut.specs.Pending.{pending}
 use Rattle.never_cut.specs.Entries.{Readings, IsCalm, IsPassed}
-use Rattle.never_cut.specs.Actors.{SamePrivate, Follows}
+use Rattle.never_cut.specs.kept.Actors.{SamePrivate, Follows}
 use Rattle.never_cut.specs.Within.{Lasts}
-use Rattle.never_cut.specs.Steps.{Background}
-use Rattle.never_cut.specs.Picked.{IsPicked}
+use Rattle.never_cut.specs.kept.Steps.{Background}
+use Rattle.never_cut.specs.kept.Picked.{IsPicked}
 use Rattle.priority_sched.specs.declared.machine.ScanMachine.{ScanMachine}
 use Rattle.priority_sched.specs.declared.scanned.Scanned.{Scanned}
 use Rattle.priority_sched.specs.declared.scanned.Scanned.TheVariants.{Pick, Quiet}

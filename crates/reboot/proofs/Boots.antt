@@ -24,8 +24,8 @@ use Rattle.never_cut.specs.Entries.{Readings}
 use Rattle.never_cut.specs.Stands.{flag, StandsPrivate}
 use Rattle.push_core.specs.Queue.{event_at, event_slot}
 use Rattle.never_cut.specs.Sound.{IsQueued}
-use Rattle.never_cut.specs.Actors.{IsFirstHeld, StandsForKernel}
-use Rattle.never_cut.specs.Steps.{Background, IsKept}
+use Rattle.never_cut.specs.kept.Actors.{IsFirstHeld, StandsForKernel}
+use Rattle.never_cut.specs.kept.Steps.{Background, IsKept}
 use Rattle.never_cut.proofs.Privates.{private_stays, ack_blocks}
 use Rattle.never_cut.proofs.Slots.{readable, first_slot, old_slot, ShowsOther}
 use Rattle.never_cut.proofs.Releases.{after_release, release_other, release_calm, release_private, release_queues}

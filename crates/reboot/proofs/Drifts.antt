@@ -5,7 +5,7 @@ use Rattle.fram_words.specs.Places.{Memory, Commit, Ack}
 use Rattle.never_cut.specs.declared.model.Model.{Model}
 use Rattle.never_cut.specs.declared.thread_model.ThreadModel.{ThreadModel}
 use Rattle.never_cut.specs.Stands.{flag}
-use Rattle.never_cut.specs.Actors.{SamePrivate, Follows}
+use Rattle.never_cut.specs.kept.Actors.{SamePrivate, Follows}
 use Rattle.never_cut.proofs.Privates.{committed-same}
 use Rattle.never_cut.proofs.Follows.{follow_finished, follow_released, follow_finishing}
 use Rattle.reboot.specs.declared.boot_at.BootAt.{BootAt}

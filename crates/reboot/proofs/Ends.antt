@@ -9,7 +9,7 @@ use Rattle.never_cut.specs.declared.model.Model.{Model}
 use Rattle.never_cut.specs.State.{thread_of}
 use Rattle.never_cut.specs.Entries.{Readings, IsCalm}
 use Rattle.never_cut.specs.Stands.{StandsPrivate}
-use Rattle.never_cut.specs.Steps.{Background}
+use Rattle.never_cut.specs.kept.Steps.{Background}
 use Rattle.reboot.specs.declared.boot_at.BootAt.{BootAt}
 use Rattle.reboot.specs.declared.boot_at.BootAt.TheVariants.{Commit, Stamp, Finished, Slot, Ack, Empty, Over}
 use Rattle.reboot.specs.declared.machine.BootMachine.{BootMachine}

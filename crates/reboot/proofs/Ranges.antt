@@ -17,8 +17,8 @@ use Rattle.never_cut.specs.Stands.{flag}
 use Rattle.push_core.specs.Queue.{published, event_at}
 use Rattle.push_core.proofs.Events.{queued_numbers}
 use Rattle.never_cut.specs.Sound.{IsQueued}
-use Rattle.never_cut.specs.Actors.{IsFinishing}
-use Rattle.never_cut.specs.Steps.{Background}
+use Rattle.never_cut.specs.kept.Actors.{IsFinishing}
+use Rattle.never_cut.specs.kept.Steps.{Background}
 use Rattle.never_cut.proofs.Slots.{IsReadable, readable, held_slot, free_slot}
 use Rattle.never_cut.proofs.Blocks.{finished_word}
 use Rattle.reboot.specs.declared.boot_at.BootAt.{BootAt}

@@ -11,8 +11,8 @@ use Rattle.never_cut.specs.State.{thread_of}
 use Rattle.never_cut.specs.Entries.{Readings}
 use Rattle.never_cut.specs.Journal.{moved}
 use Rattle.never_cut.specs.Stands.{flag}
-use Rattle.never_cut.specs.Actors.{IsFinishing}
-use Rattle.never_cut.specs.Steps.{IsKept}
+use Rattle.never_cut.specs.kept.Actors.{IsFinishing}
+use Rattle.never_cut.specs.kept.Steps.{IsKept}
 use Rattle.reboot.specs.declared.boot_at.BootAt.{BootAt}
 use Rattle.reboot.specs.declared.boot_at.BootAt.TheVariants.{Commit, Stamp, Finished, Slot, Ack, Empty, Over}
 use Rattle.reboot.specs.declared.machine.BootMachine.{BootMachine}

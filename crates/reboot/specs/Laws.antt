@@ -7,8 +7,8 @@ use Rattle.never_cut.specs.declared.model.Model.{Model}
 use Rattle.never_cut.specs.Entries.{Readings, IsCalm}
 use Rattle.never_cut.specs.Journal.{moved}
 use Rattle.never_cut.specs.Finished.{AtMostOneFinished}
-use Rattle.never_cut.specs.Actors.{SamePrivate, Follows}
-use Rattle.never_cut.specs.Steps.{Background}
+use Rattle.never_cut.specs.kept.Actors.{SamePrivate, Follows}
+use Rattle.never_cut.specs.kept.Steps.{Background}
 use Rattle.reboot.specs.declared.machine.BootMachine.{BootMachine}
 use Rattle.reboot.specs.Boot.{boot_begun, boot_stamp, boot_wants, boot_point, IsBoot, IsBootWord}
 use Rattle.reboot.specs.Knows.{last_stamp, greatest, shown, BootHolds, BootStep}

@@ -7,7 +7,7 @@ use Rattle.ink_base.specs.declared.event.Event.{Event}
 use Rattle.push_core.specs.Queue.{Queue, published, event_at, no_event, IsNumber, IsFinishing, KeepsNumbers, with_event, without_first, with_finished}
 use Rattle.push_core.proofs.Events.{number_source, number_count, finishing_some, finishing_source, finishing_count}
 use Rattle.source_laws.specs.Model.{Near}
-use Rattle.source_laws.specs.Knows.{KnowsAt, Boots, IsShown}
+use Rattle.source_laws.specs.kept.Knows.{KnowsAt, Boots, IsShown}
 use Rattle.source_laws.proofs.Numbers.{numbered_range, numbered_at, numbered_release_own}
 
 -- what a source sees after the others have changed TAIL, its ACK and its queue

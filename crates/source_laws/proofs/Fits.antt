@@ -6,8 +6,9 @@ use Rattle.push_core.specs.declared.stage.Stage.TheVariants.{LoadSrc, LoadSlots,
 use Rattle.push_core.specs.Queue.{published}
 use Rattle.source_laws.specs.Model.{Board, Near}
 use Rattle.source_laws.specs.Rows.{port_of, found}
-use Rattle.source_laws.specs.Knows.{KnowsAt, Boots}
-use Rattle.source_laws.specs.Kept.{State, Kept, IsWithin}
+use Rattle.source_laws.specs.kept.Knows.{KnowsAt, Boots}
+use Rattle.source_laws.specs.Stands.{State, IsWithin}
+use Rattle.source_laws.specs.kept.Kept.{Kept}
 use Rattle.source_laws.proofs.Sources.{stored_as}
 use Rattle.source_laws.proofs.Own.{Own}
 use Rattle.source_laws.proofs.Frames.{own_of}

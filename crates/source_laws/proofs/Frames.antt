@@ -9,8 +9,9 @@ use Rattle.push_core.proofs.Queues.{queue_same}
 use Rattle.push_core.proofs.Unsettled.{unsettled_least}
 use Rattle.source_laws.specs.Model.{places_for, Board, SourceBecomes}
 use Rattle.push_core.specs.declared.row.Row.{Row}
-use Rattle.source_laws.specs.Knows.{Knows}
-use Rattle.source_laws.specs.Kept.{State, Kept, near, QueueKept, SourcePart, slots_of, EventsKept, IsOrdered, IsWithin}
+use Rattle.source_laws.specs.kept.Knows.{Knows}
+use Rattle.source_laws.specs.Stands.{State, near, QueueKept, slots_of, EventsKept, IsOrdered, IsWithin}
+use Rattle.source_laws.specs.kept.Kept.{Kept, SourcePart}
 use Rattle.source_laws.proofs.Sources.{source_store}
 use Rattle.source_laws.proofs.Nears.{near_is, source_as}
 use Rattle.source_laws.proofs.Counts.{positions_fit, event_fits}

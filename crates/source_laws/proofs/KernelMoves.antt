@@ -12,7 +12,8 @@ use Rattle.push_core.proofs.Unsettled.{unsettled_least}
 use Rattle.fram_words.specs.Places.{Place, Tail, Ack, Src, IsShared}
 use Rattle.fram_words.specs.Places as places
 use Rattle.source_laws.specs.Model.{places_for, Board, Model, QueueBecomes}
-use Rattle.source_laws.specs.Kept.{State, Kept, near, QueueKept, SourceKept, EventsKept, IsWithin}
+use Rattle.source_laws.specs.Stands.{State, near, QueueKept, EventsKept, IsWithin}
+use Rattle.source_laws.specs.kept.Kept.{Kept, SourceKept}
 use Rattle.source_laws.proofs.Nears.{near_is, source_as, other_finish, own_acked, any_release}
 use Rattle.source_laws.proofs.Frames.{queue_part, events_part, slots_become}
 

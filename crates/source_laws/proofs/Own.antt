@@ -15,8 +15,8 @@ use Rattle.push_core.specs.Table.{src_word}
 use Rattle.push_core.specs.declared.stage.Stage.{Stage}
 use Rattle.push_core.specs.declared.stage.Stage.TheVariants.{LoadSlots, LoadAck, LoadTail, LoadSlot, Publish, HelpTail, StoreSkip, StoreAccepted}
 use Rattle.push_core.specs.Table.{shows_own, after_boot_slot, after_ack, after_slot, is_full_at}
-use Rattle.source_laws.specs.Knows.{KnowsAt, Boots}
-use Rattle.source_laws.specs.Kept.{IsOrdered}
+use Rattle.source_laws.specs.kept.Knows.{KnowsAt, Boots}
+use Rattle.source_laws.specs.Stands.{IsOrdered}
 use Rattle.source_laws.proofs.Sources.{own_count, ack_behind, last_one, src_parts, stored_as}
 
 -- what is known of a source, its queue and its words

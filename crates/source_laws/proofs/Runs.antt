@@ -6,7 +6,8 @@ use Rattle.push_core.proofs.Events.{number_source, number_count}
 use Rattle.push_core.proofs.Queues.{queue_same}
 use Rattle.push_core.proofs.Unsettled.{unsettled_bound}
 use Rattle.source_laws.specs.Model.{Board, Near}
-use Rattle.source_laws.specs.Kept.{State, Kept, near, slots_of, IsOrdered, IsWithin}
+use Rattle.source_laws.specs.Stands.{State, near, slots_of, IsOrdered, IsWithin}
+use Rattle.source_laws.specs.kept.Kept.{Kept}
 use Rattle.source_laws.specs.Steps.{IsFirst, IsStart, IsRun}
 use Rattle.source_laws.proofs.Sources.{stored_as, own_count, ack_behind, last_one}
 use Rattle.source_laws.proofs.Own.{Own}

@@ -12,8 +12,9 @@ use Rattle.push_core.proofs.Unsettled.{unsettled_one}
 use Rattle.fram_words.specs.Places.{Tail, Ack, Src}
 use Rattle.fram_words.specs.Places as places
 use Rattle.source_laws.specs.Model.{places_for, Board, Model, BothBecome}
-use Rattle.source_laws.specs.Knows.{Knows}
-use Rattle.source_laws.specs.Kept.{State, Kept, near, slots_of, QueueKept, SourcePart, EventsKept, IsWithin}
+use Rattle.source_laws.specs.kept.Knows.{Knows}
+use Rattle.source_laws.specs.Stands.{State, near, slots_of, QueueKept, EventsKept, IsWithin}
+use Rattle.source_laws.specs.kept.Kept.{Kept, SourcePart}
 use Rattle.source_laws.proofs.Sources.{source_push_own}
 use Rattle.source_laws.proofs.Nears.{near_is, source_as, other_tail, other_push}
 use Rattle.source_laws.proofs.Frames.{queue_part, events_part, slots_become}

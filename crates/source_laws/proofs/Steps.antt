@@ -14,8 +14,9 @@ use Rattle.push_core.specs.declared.stage.Stage.TheVariants.{LoadSrc, LoadSlots,
 use Rattle.push_core.specs.Table.{IsLeft, is_full_at, after_slot, row_at, src_word}
 use Rattle.push_core.specs.declared.point.Point.TheVariants as points
 use Rattle.source_laws.specs.Rows.{event_of, entry_of, access, take, entry, found, slot_place}
-use Rattle.source_laws.specs.Knows.{Knows}
-use Rattle.source_laws.specs.Kept.{State, Kept, near, slots_of, IsWithin}
+use Rattle.source_laws.specs.kept.Knows.{Knows}
+use Rattle.source_laws.specs.Stands.{State, near, slots_of, IsWithin}
+use Rattle.source_laws.specs.kept.Kept.{Kept}
 use Rattle.source_laws.specs.Steps.{MayAdd, Adds, SourceStep, Step}
 use Rattle.source_laws.specs.Steps as steps
 use Rattle.source_laws.proofs.Own.{own_src, own_slots, own_ack, own_tail, own_slot, own_refuse, own_won, own_lost}

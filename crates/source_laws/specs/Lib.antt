@@ -1,6 +1,6 @@
 pub mod Model
 pub mod Rows
-pub mod Knows
-pub mod Kept
+pub mod Stands
 pub mod Steps
 pub mod Journals
+pub mod kept

@@ -9,7 +9,7 @@ use Rattle.fram_words.specs.Places as places
 use Rattle.source_laws.specs.Model.{Board, Model, Entry, Finish, Release, IsLegal, Follows}
 use Rattle.push_core.specs.Table.{IsLeft, first_row}
 use Rattle.source_laws.specs.Rows.{access, take, entry, found}
-use Rattle.source_laws.specs.Kept.{State, QueueKept, EventsKept, IsOrdered}
+use Rattle.source_laws.specs.Stands.{State, QueueKept, EventsKept, IsOrdered}
 
 -- the entry, if there is one, may be made
 abbrev pub MayAdd : Board → Option Entry → Model → Type 0

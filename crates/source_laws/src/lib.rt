@@ -4,7 +4,7 @@
 ghost use Rattle.std.specs.Prelude.{◌≡◌, ℕ, suc, ◌-◌, ◌<◌, ◌≤◌, List};
 ghost use Rattle.std.specs.List.{range_with_len};
 ghost use Rattle.source_laws.specs.Model.{Board, Model, Entry};
-ghost use Rattle.source_laws.specs.Kept.{IsWithin, State, Stands};
+ghost use Rattle.source_laws.specs.Stands.{IsWithin, State, Stands};
 ghost use Rattle.source_laws.specs.Rows.{entry, found};
 ghost use Rattle.source_laws.specs.Steps.{IsFirst, IsStart, IsRun, SourceStep, MayAdd};
 ghost use Rattle.source_laws.specs.Journals.{Leads, settled};

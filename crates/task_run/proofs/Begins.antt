@@ -8,8 +8,8 @@ use Rattle.ink_layout.specs.declared.pick.Pick.{Pick}
 use Rattle.never_cut.specs.declared.model.Model.{Model}
 use Rattle.never_cut.specs.Stands.{Saved, saved, StandsThread}
 use Rattle.never_cut.specs.Entries.{Readings}
-use Rattle.never_cut.specs.Picked.{IsPicked}
-use Rattle.never_cut.specs.Steps.{Background}
+use Rattle.never_cut.specs.kept.Picked.{IsPicked}
+use Rattle.never_cut.specs.kept.Steps.{Background}
 use Rattle.task_run.specs.declared.phase.Phase.TheVariants.{WriteFirst, Resume}
 use Rattle.task_run.specs.Machine.{begin, first_phase, execution_of, running_task}
 use Rattle.task_run.specs.kept.Serving.{Begins as Starts}

@@ -18,7 +18,7 @@ use Rattle.never_cut.specs.declared.timer_model.TimerModel.{TimerModel}
 use Rattle.never_cut.specs.State.{thread_of, is_running}
 use Rattle.never_cut.specs.Pending.{pending}
 use Rattle.never_cut.specs.Commit.{commit, committed, consumed, expired, ended, end_at, is_expired, is_overdue, taken_from, moved_on, with_sends, with_timers, expired_after, thread_after, with_first}
-use Rattle.never_cut.specs.Picked.{IsPicked}
+use Rattle.never_cut.specs.kept.Picked.{IsPicked}
 use Rattle.task_run.specs.kept.Serving.{assignment, effects_of, result}
 use Rattle.never_cut.specs.Stands.{saved}
 use Rattle.task_run.proofs.Effects.{with_commit}

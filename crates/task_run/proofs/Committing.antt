@@ -25,7 +25,7 @@ use Rattle.never_cut.specs.Commit.{is_of_queue}
 use Rattle.never_cut.specs.Stands.{Saved, saved, thread_words, log_of, AreLogged, StandsThread, StandsPrivate, slots_of}
 use Rattle.push_core.specs.Queue.{StandsQueue, published}
 use Rattle.never_cut.specs.Sound.{IsSound}
-use Rattle.never_cut.specs.Actors.{StandsForKernel}
+use Rattle.never_cut.specs.kept.Actors.{StandsForKernel}
 use Rattle.never_cut.proofs.Beginnings.{Begins}
 use Rattle.never_cut.proofs.PickedEvents.{picked_begins}
 use Rattle.task_run.specs.declared.ending.Ending.{Ending}

@@ -14,8 +14,8 @@ use Rattle.never_cut.specs.State.{thread_of}
 use Rattle.never_cut.specs.Commit.{commit}
 use Rattle.never_cut.specs.Entries.{Readings}
 use Rattle.never_cut.specs.Stands.{StandsPrivate}
-use Rattle.never_cut.specs.Actors.{StandsForKernel, IsAllowed}
-use Rattle.never_cut.specs.Steps.{Background}
+use Rattle.never_cut.specs.kept.Actors.{StandsForKernel, IsAllowed}
+use Rattle.never_cut.specs.kept.Steps.{Background}
 use Rattle.never_cut.proofs.Privates.{private_stays, ack_blocks}
 use Rattle.never_cut.proofs.Releases.{after_release, release_private, release_queues, release_calm, release_other}
 use Rattle.task_run.specs.declared.ending.Ending.{Ending}

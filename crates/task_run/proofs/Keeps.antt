@@ -13,7 +13,7 @@ use Rattle.ink_layout.specs.declared.pick.Pick.{Pick}
 use Rattle.never_cut.specs.declared.model.Model.{Model}
 use Rattle.never_cut.specs.Entries.{Readings}
 use Rattle.never_cut.specs.Stands.{Saved, saved}
-use Rattle.never_cut.specs.Steps.{Background}
+use Rattle.never_cut.specs.kept.Steps.{Background}
 use Rattle.persist_timer.specs.Due.{armed}
 use Rattle.task_run.specs.declared.ending.Ending.{Ending}
 use Rattle.task_run.specs.declared.execution.Execution.{Execution}

@@ -13,7 +13,7 @@ use Rattle.never_cut.specs.declared.model.Model.{Model}
 use Rattle.never_cut.specs.State.{pipe_of}
 use Rattle.never_cut.specs.Commit.{outputs_of}
 use Rattle.never_cut.specs.Stands.{StandsThread, StandsPrivate}
-use Rattle.never_cut.specs.Actors.{StandsForKernel}
+use Rattle.never_cut.specs.kept.Actors.{StandsForKernel}
 
 pub thread_frame : (program : Program) (words new : Memory) (m : Model) (t : ℕ) →
     ((w : ℕ) → committed new t w ≡ committed words t w) →

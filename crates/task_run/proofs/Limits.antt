@@ -9,8 +9,8 @@ use Rattle.prog_check.specs.Lookup.{thread_def, task_def, no_task_def, code_len}
 use Rattle.prog_check.specs.Accepted.{IsAccepted}
 use Rattle.never_cut.specs.Sound.{IsQueued}
 use Rattle.push_core.specs.Queue.{published, event_at}
-use Rattle.never_cut.specs.Actors.{IsFinishing}
-use Rattle.never_cut.specs.Steps.{Background}
+use Rattle.never_cut.specs.kept.Actors.{IsFinishing}
+use Rattle.never_cut.specs.kept.Steps.{Background}
 use Rattle.task_run.specs.declared.execution.Execution.{Execution}
 use Rattle.task_run.specs.Fits.{FitsExecution}
 use Rattle.std.specs.Option.{ForSome}
@@ -24,7 +24,7 @@ use Rattle.never_cut.specs.declared.model.Model.{Model}
 use Rattle.never_cut.specs.State.{thread_of, queue_of}
 use Rattle.never_cut.specs.Entries.{Readings}
 use Rattle.never_cut.specs.Sound.{IsSound}
-use Rattle.never_cut.specs.Picked.{IsLoaded}
+use Rattle.never_cut.specs.kept.Picked.{IsLoaded}
 use Rattle.never_cut.specs.Stands.{Saved, period_word}
 use Rattle.never_cut.proofs.PickedEvents.{IsServable}
 use Rattle.task_run.specs.declared.ending.Ending.{Ending}

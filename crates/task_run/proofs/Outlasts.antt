@@ -14,7 +14,7 @@ use Rattle.never_cut.specs.declared.pipe_model.PipeModel.{PipeModel}
 use Rattle.never_cut.specs.State.{thread_of, is_running}
 use Rattle.never_cut.specs.Commit.{rooms, outputs_of, is_overdue}
 use Rattle.never_cut.specs.Stands.{log_of, AreLogged}
-use Rattle.never_cut.specs.Actors.{SamePrivate, Follows}
+use Rattle.never_cut.specs.kept.Actors.{SamePrivate, Follows}
 use Rattle.never_cut.specs.declared.thread_model.ThreadModel.{ThreadModel}
 use Rattle.never_cut.proofs.Follows.{with_parts, follow_finished, follow_released, follow_calm, follow_finishing, follow_privately}
 use Rattle.never_cut.proofs.Picks.{picked_follows}

@@ -17,8 +17,8 @@ use Rattle.never_cut.specs.State.{thread_of, pipe_of}
 use Rattle.never_cut.specs.Commit.{task_at, rooms}
 use Rattle.never_cut.specs.Entries.{Readings}
 use Rattle.never_cut.specs.Stands.{Saved, saved}
-use Rattle.never_cut.specs.Picked.{IsPicked}
-use Rattle.never_cut.specs.Steps.{Background}
+use Rattle.never_cut.specs.kept.Picked.{IsPicked}
+use Rattle.never_cut.specs.kept.Steps.{Background}
 use Rattle.never_cut.specs.Within.{Lasts}
 use Rattle.never_cut.proofs.PickedEvents.{IsServable, picked_event}
 use Rattle.task_run.specs.declared.ending.Ending.{Ending}

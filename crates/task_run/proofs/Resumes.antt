@@ -18,7 +18,7 @@ use Rattle.never_cut.specs.Commit.{is_overdue}
 use Rattle.never_cut.specs.Entries.{Readings}
 use Rattle.never_cut.specs.Sound.{IsSound}
 use Rattle.never_cut.specs.Stands.{Saved, saved, StandsPrivate}
-use Rattle.never_cut.specs.Picked.{IsPicked}
+use Rattle.never_cut.specs.kept.Picked.{IsPicked}
 use Rattle.task_run.specs.declared.ending.Ending.{Ending}
 use Rattle.task_run.specs.declared.ending.Ending.TheVariants as endings
 use Rattle.task_run.specs.declared.execution.Execution.{Execution}

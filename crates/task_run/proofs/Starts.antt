@@ -15,7 +15,7 @@ use Rattle.never_cut.specs.declared.model.Model.{Model}
 use Rattle.never_cut.specs.Entries.{Readings}
 use Rattle.never_cut.specs.Sound.{IsSound}
 use Rattle.never_cut.specs.Stands.{Saved, saved}
-use Rattle.never_cut.specs.Picked.{IsPicked}
+use Rattle.never_cut.specs.kept.Picked.{IsPicked}
 use Rattle.task_run.specs.declared.ending.Ending.TheVariants as endings
 use Rattle.task_run.specs.Machine.{execution_of}
 use Rattle.task_run.specs.kept.Serving.{Assignment, assignment, whole, begun, with_effects, result, config_of, IsTrap, IsEndOf, Told, RunningIn, Finishing, worked_in}

@@ -22,7 +22,7 @@ use Rattle.never_cut.specs.State.{thread_of}
 use Rattle.never_cut.specs.Pending.{pending_in}
 use Rattle.never_cut.specs.Stands.{Saved, saved, StandsPrivate, StandsThread}
 use Rattle.never_cut.specs.Sound.{HasShape}
-use Rattle.never_cut.specs.Picked.{IsPicked}
+use Rattle.never_cut.specs.kept.Picked.{IsPicked}
 use Rattle.task_run.specs.declared.ending.Ending.{Ending}
 use Rattle.task_run.specs.declared.ending.Ending.TheVariants as endings
 use Rattle.task_run.specs.declared.phase.Phase.TheVariants.{WriteFirst, Fetch, WriteNext}

@@ -9,9 +9,9 @@ use Rattle.never_cut.specs.declared.model.Model.{Model}
 use Rattle.never_cut.specs.State.{thread_of}
 use Rattle.never_cut.specs.Entries.{Readings, IsCalm}
 use Rattle.never_cut.specs.Journal.{moved}
-use Rattle.never_cut.specs.Actors.{SamePrivate, Follows, IsFinishing}
-use Rattle.never_cut.specs.Picked.{IsPicked}
-use Rattle.never_cut.specs.Steps.{Background, IsKept}
+use Rattle.never_cut.specs.kept.Actors.{SamePrivate, Follows, IsFinishing}
+use Rattle.never_cut.specs.kept.Picked.{IsPicked}
+use Rattle.never_cut.specs.kept.Steps.{Background, IsKept}
 use Rattle.never_cut.specs.Within.{Lasts}
 use Rattle.task_run.specs.declared.phase.Phase.{Phase}
 use Rattle.task_run.specs.declared.phase.Phase.TheVariants.{StoreCommit, StoreAck, StoreEmpty, Over}

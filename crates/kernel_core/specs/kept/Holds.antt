@@ -3,7 +3,7 @@ use Rattle.std.specs.Prelude.{◌≡◌, ℕ, ◌≤◌, false, [], length, None
 use Rattle.fram_words.specs.Places.{Memory, Clock}
 use Rattle.ink_layout.specs.Shape.{words_of}
 use Rattle.task_isa.specs.declared.program.Program.{Program}
-use Rattle.source_laws.specs.Kept.{Kept}
+use Rattle.source_laws.specs.kept.Kept.{Kept}
 use Rattle.never_cut.specs.declared.model.Model.{Model}
 use Rattle.never_cut.specs.Journal.{IsLegal}
 use Rattle.never_cut.specs.Stands.{StandsPrivate}

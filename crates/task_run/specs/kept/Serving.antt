@@ -25,7 +25,7 @@ use Rattle.never_cut.specs.declared.pipe_model.PipeModel.{PipeModel}
 use Rattle.never_cut.specs.State.{no_pipe}
 use Rattle.never_cut.specs.Commit.{start_at, task_at, stamped, is_expired, is_of_queue, with_sends}
 use Rattle.never_cut.specs.Stands.{Saved, saved, thread_words, log_of, AreLogged}
-use Rattle.never_cut.specs.Picked.{IsPicked}
+use Rattle.never_cut.specs.kept.Picked.{IsPicked}
 use Rattle.task_run.specs.declared.ending.Ending.{Ending}
 use Rattle.task_run.specs.declared.ending.Ending.TheVariants as endings
 use Rattle.task_run.specs.declared.execution.Execution.{Execution}

@@ -44,7 +44,7 @@ invariant_of-self c = (
       c.perform-word.ensures.answer
       c.perform-word.ensures.after
       c.take.ensures.registers
-      (c.entry_of_point-entry.ensures ∙ ap (λ z. entry_of_point z) c.point-point.ensures _)
+      (c.entry_of_point-entry.ensures ∙ ap (λ z. entry_of_point z) (c.point-point.ensures c.self.inside.plan.accepted))
       (c.note_kernel.ensures.charge ∙ ap (λ (z : Recorded). with_kernel c.entry_of_point-entry.result z.charge)
       (at_hand _ _ _ _ _ _ c.self.invariant.1 (subst (λ (z : View). 0 < z.board.begun) (sym c.self.view_is) c.requires.begun) c.index_mut.result.now c.index_mut.ensures.value))
       (subst (λ (z : Recorded). KeepsRoom z c.note_kernel.new.self)
@@ -60,7 +60,7 @@ returns-clause-board c =
     c.perform-word.new.self c.take.new.self c.entry_of_point-entry.result c.note_kernel.new.self
     c.perform-word.ensures.after
     c.take.ensures.registers
-    (c.entry_of_point-entry.ensures ∙ ap (λ z. entry_of_point z) c.point-point.ensures _)
+    (c.entry_of_point-entry.ensures ∙ ap (λ z. entry_of_point z) (c.point-point.ensures c.self.inside.plan.accepted))
     (c.note_kernel.ensures.charge ∙ ap (λ (z : Recorded). with_kernel c.entry_of_point-entry.result z.charge)
     (at_hand _ _ _ _ _ _ c.self.invariant.1 (subst (λ (z : View). 0 < z.board.begun) (sym c.self.view_is) c.requires.begun) c.index_mut.result.now c.index_mut.ensures.value))
     ∙ ap (λ (z : View). kernel_turn (setup_of z.job) z.board) c.self.view_is
@@ -72,5 +72,5 @@ returns-clause-made c =
     c.want-access.ensures.access
     c.perform-word.ensures.answer
     c.entry_of_point-entry.result
-    (c.entry_of_point-entry.ensures ∙ ap (λ z. entry_of_point z) c.point-point.ensures _)
+    (c.entry_of_point-entry.ensures ∙ ap (λ z. entry_of_point z) (c.point-point.ensures c.self.inside.plan.accepted))
     ∙ ap (λ (z : View). kernel_made (setup_of z.job) z.board) c.self.view_is

@@ -1,12 +1,11 @@
--- What every access of every source, every release and every cut keeps.
+-- The words of queues and sources, where each source is in its table, and when the words stand for the never-cut kernel.
 use Rattle.std.specs.Prelude.{ℕ, ◌+◌, ◌^◌, ◌<◌, ◌≤◌, length, slice_index}
 use Rattle.fram_words.specs.Places.{Place, Tail, Ack, Src}
 use Rattle.fram_words.specs.Places as places
-use Rattle.push_core.specs.Queue.{Queue, Source, published, event_at, IsQueued, unsettled_into, StandsQueue, StandsSource, KeepsNumbers}
+use Rattle.push_core.specs.Queue.{Queue, Source, published, event_at, IsQueued, unsettled_into, StandsQueue, StandsSource}
 use Rattle.source_laws.specs.Model.{places_for, Board, Near, Model}
 use Rattle.push_core.specs.Table.{greatest_tail}
 use Rattle.push_core.specs.declared.row.Row.{Row}
-use Rattle.source_laws.specs.Knows.{Knows}
 
 -- at most 16 sources, 65,535 readings of each, 32 bits in a reading, and from 1 to 32 places in a source's queue
 pub record IsWithin (board : Board) : Type 0 where
@@ -43,21 +42,6 @@ pub record IsOrdered (readings : ℕ) (s : Source) : Type 0 where
 -- what source i can see
 abbrev pub near : Board → State → ℕ → Near
 near board x i = record { tail = x.word (Tail (board.queue_of i)); src = x.word (Src i); ack = x.word (Ack i); queue = x.model.queue (board.queue_of i); source = x.model.source i }
-
--- the part of one source, at a row of its table
-pub record SourceKept (i places readings : ℕ) (n : Near) (row : Row) : Type 0 where
-  pub stands : KeepsNumbers i n.src n.ack n.queue n.source
-  pub ordered : IsOrdered readings n.source
-  pub knows : Knows i places readings n row
-
--- and in a state
-abbrev pub SourcePart : Board → State → ℕ → Type 0
-SourcePart board x i = SourceKept i (places_for board i) (length (board.readings i)) (near board x i) (x.row i)
-
-pub record Kept (board : Board) (x : State) : Type 0 where
-  pub queues : (t : ℕ) → QueueKept board x t
-  pub events : (t : ℕ) → EventsKept board x.model.queue x.model.source t
-  pub sources : (i : ℕ) → SourcePart board x i
 
 -- the words of queues and sources stand for those of the never-cut kernel
 pub record Stands (board : Board) (x : State) : Type 0 where

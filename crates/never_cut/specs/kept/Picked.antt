@@ -13,7 +13,7 @@ use Rattle.never_cut.specs.State.{thread_of}
 use Rattle.never_cut.specs.Pending.{pending}
 use Rattle.never_cut.specs.Commit.{is_of_queue}
 use Rattle.never_cut.specs.Entries.{IsCalm, ArePassed}
-use Rattle.never_cut.specs.Actors.{IsFirstHeld}
+use Rattle.never_cut.specs.kept.Actors.{IsFirstHeld}
 
 -- the words that tell how an event is consumed: as many items were taken as its number says, and a timer's word is its deadline plus 1
 abbrev pub IsLoaded : Pick → Event → Type 0

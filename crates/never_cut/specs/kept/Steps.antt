@@ -9,7 +9,7 @@ use Rattle.never_cut.specs.Entries.{Readings}
 use Rattle.never_cut.specs.Journal.{moved, MayNote}
 use Rattle.never_cut.specs.Stands.{StandsPrivate}
 use Rattle.never_cut.specs.Sound.{IsSound}
-use Rattle.never_cut.specs.Actors.{StandsForKernel, IsAllowed}
+use Rattle.never_cut.specs.kept.Actors.{StandsForKernel, IsAllowed}
 
 -- the words stand for the state, and the state is one that a legal journal reaches
 pub record Background (program : Program) (readings : Readings) (words : Memory) (m : Model) : Type 0 where
