@@ -1,3 +1,4 @@
+pub mod Committed
 pub mod Pages
 pub mod Blocks
 pub mod Buffers

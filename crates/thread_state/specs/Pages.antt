@@ -2,18 +2,7 @@
 use Rattle.std.specs.Prelude.{◌≡◌, ◌≢◌, ◌⊎◌, ℕ, ◌+◌, ◌-◌, ◌/◌, ◌%◌, ◌^◌, ◌<◌, ◌==◌, Bool, cond, bit_or, bit_xor}
 use Rattle.std.specs.Int.{bit_at}
 use Rattle.fram_words.specs.Places.{Place, Commit, Page, Memory, Access, Load, Store}
-
--- where a word of the thread's block stands in the copies that a mask names
-abbrev pub place_in : ℕ → ℕ → ℕ → Place
-place_in thread mask word = Page thread (word / 8) (bit_at mask (word / 8)) (word % 8)
-
--- the word of the block in those copies
-abbrev pub word_in : Memory → ℕ → ℕ → ℕ → ℕ
-word_in m thread mask word = m (place_in thread mask word)
-
--- the word of the committed copy
-abbrev pub committed : Memory → ℕ → ℕ → ℕ
-committed m thread word = word_in m thread (m (Commit thread)) word
+pub use Rattle.thread_state.specs.Committed.{place_in, word_in, committed}
 
 -- how far the copying of a page is: the next word to load, or one that was loaded and is to be stored
 pub data Copying : Type 0 where
