@@ -1,4 +1,4 @@
-//! Tests of the calls that make, check and copy what a job consists of: instructions, programs, readings and charges.
+//! Tests of the calls that read, generate and copy jobs: readings, charges and their limits.
 #![tactic(auto)]
 
 #[cfg(test)]
@@ -6,12 +6,8 @@ mod copies;
 #[cfg(test)]
 mod fixtures;
 #[cfg(test)]
-mod instructions;
-#[cfg(test)]
 mod jobs;
 #[cfg(test)]
 mod limits;
-#[cfg(test)]
-mod programs;
 #[cfg(test)]
 mod soaks;

@@ -1,6 +1,5 @@
 //! Programs built by hand, as no text gives them (prog_check).
 
-use crate::fixtures::at;
 use ink_base::{Cause, JobAnswer, JobFault, NoMemory, ThreadId};
 use prog_check::{Accepted, check};
 use sqlite_items::Items;
@@ -120,12 +119,20 @@ fn an_accepted_program_is_copied(rt: HostRuntime) -> Result<(), Fail> {
 
 #[test]
 fn a_queue_of_33_places_is_refused_at_its_line(rt: HostRuntime) -> Result<(), Fail> {
-    assert_eq!(rt; refusal_of_queue(rt.alloc(), 33)?, at(2, Cause::OverLimit));
+    let fault = JobFault {
+        line: 2,
+        cause: Cause::OverLimit,
+    };
+    assert_eq!(rt; refusal_of_queue(rt.alloc(), 33)?, Some(fault));
     Ok(())
 }
 
 #[test]
 fn a_pipe_of_a_thread_to_itself_is_refused_at_the_header(rt: HostRuntime) -> Result<(), Fail> {
-    assert_eq!(rt; refusal_of_looped(rt.alloc())?, at(1, Cause::BadOwner));
+    let fault = JobFault {
+        line: 1,
+        cause: Cause::BadOwner,
+    };
+    assert_eq!(rt; refusal_of_looped(rt.alloc())?, Some(fault));
     Ok(())
 }
