@@ -1,10 +1,10 @@
 -- The next thread of a scan is the one of the greatest priority below that of the last one.
-use Rattle.std.proofs.Common.{◌≡◌, ℕ, zero, suc, ◌<◌, ◌≤◌, true, false, length, Option, Some, None, arith, refl, sym, inl, inr, subst}
+use Rattle.std.proofs.Common.{◌≡◌, ℕ, zero, suc, ◌<◌, ◌≤◌, length, Option, Some, None, arith, sym, inl, inr, subst}
 use Rattle.std.proofs.lemmas.Bool.{cases_lt, cases_eq, lt-ltb, le-ltb}
 use Rattle.ink_base.specs.declared.ids.ThreadId.{ThreadId}
 use Rattle.task_isa.specs.declared.program.Program.{Program}
 use Rattle.prog_check.specs.Accepted.{IsAccepted}
-use Rattle.priority_sched.specs.Order.{priority_of, least_above, is_next, better, next_among, IsHighest}
+use Rattle.priority_sched.specs.Order.{priority_of, better, next_among, IsHighest}
 
 -- the numbers below one more: those below it, and it
 last_or_below : (P : ℕ → Type 0) (t : ℕ) → ((u : ℕ) → u < t → P u) → P t → (u : ℕ) → u < suc t → P u
@@ -67,20 +67,3 @@ same_priority program t u accepted known within e =
         | inr ge ↦ omega arith
       ]
     ]
-
--- a thread is the next one exactly where its priority is below the bound, and at least the least one above the best so far
-pub next_from : (program : Program) (bound t : ℕ) (best : Option ThreadId) → least_above program best ≤ priority_of program t → priority_of program t < bound → is_next program bound t best ≡ true
-next_from program bound t None least lt = rw (lt-ltb (priority_of program t) bound lt) refl
-next_from program bound t (Some b) least lt =
-    rw (lt-ltb (priority_of program t) bound lt, lt-ltb (priority_of program b.0) (priority_of program t) (omega arith)) refl
-
-pub passed_low : (program : Program) (bound t : ℕ) (best : Option ThreadId) → priority_of program t < least_above program best → is_next program bound t best ≡ false
-passed_low program bound t None low = absurd (omega arith)
-passed_low program bound t (Some b) low =
-    elim (cases_lt (priority_of program t) bound) [
-      | inl lt ↦ rw (lt-ltb (priority_of program t) bound lt, le-ltb (priority_of program b.0) (priority_of program t) (omega arith)) refl
-      | inr le ↦ rw (le-ltb (priority_of program t) bound le) refl
-    ]
-
-pub passed_bound : (program : Program) (bound t : ℕ) (best : Option ThreadId) → bound ≤ priority_of program t → is_next program bound t best ≡ false
-passed_bound program bound t best le = rw (le-ltb (priority_of program t) bound le) refl

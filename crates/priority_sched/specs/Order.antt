@@ -1,5 +1,5 @@
 -- The order in which a scan visits the threads.
-use Rattle.std.specs.Prelude.{ℕ, zero, suc, ◌+◌, ◌<◌, ◌≤◌, ◌&&◌, nat_lt, Bool, true, length, if◌then◌else◌, Option, Some, None}
+use Rattle.std.specs.Prelude.{ℕ, zero, suc, ◌<◌, ◌≤◌, ◌&&◌, nat_lt, Bool, true, length, if◌then◌else◌, Option, Some, None}
 use Rattle.ink_base.specs.declared.ids.ThreadId.{ThreadId}
 use Rattle.task_isa.specs.declared.program.Program.{Program}
 use Rattle.prog_check.specs.Lookup.{thread_def}
@@ -11,11 +11,6 @@ priority_of program t = (thread_def program t).priority
 abbrev pub is_above : Program → ℕ → Option ThreadId → Bool
 is_above program t None = true
 is_above program t (Some best) = nat_lt (priority_of program best.0) (priority_of program t)
-
--- the least priority that is above that of the best thread so far
-abbrev pub least_above : Program → Option ThreadId → ℕ
-least_above program None = 0
-least_above program (Some best) = priority_of program best.0 + 1
 
 -- the thread is below the bound, and above the best one so far
 abbrev pub is_next : Program → (bound t : ℕ) → Option ThreadId → Bool

@@ -16,7 +16,7 @@ use crate::event::event_at;
 use crate::places::{item_of, writer_of};
 use crate::scan_at::ScanAt;
 use crate::scanned::Scanned;
-use fram_words::{Access, Header, Place, Step};
+use fram_words::{Access, Header, Place};
 use ink_base::ThreadId;
 use ink_layout::{KernelPoint, Plan, SlotAt, slot_of};
 use task_isa::Program;
@@ -74,7 +74,7 @@ impl ScanMachine {
             → IsAnswerTo plan.now.accepted (scan_loaded self.now.time self.now.at) (scan_wants plan.now.accepted self.now.thread.0 self.now.at) word
             → IsScanWord plan.now.accepted self.now.at word }
     {
-        plan.access(Step::Load(self.place(plan.program())))
+        Access::Load(plan.address(self.place(plan.program())))
     }
 
     // The place of the access of the row.

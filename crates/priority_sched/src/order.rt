@@ -14,15 +14,26 @@ pub(crate) fn next_below(program: &Program, bound: u32) -> Option<ThreadId>
     ensures known { ForSome result (λ t. t.0 < length program.now.threads) }
 {
     let mut best = None;
-    let mut least = 0;
     for n in 0..program.threads.len() {
-        let priority = priority_of(program, n) as u32;
-        if least <= priority && priority < bound {
+        if is_next(program, bound, n, best) {
             best = Some(ThreadId(n as u8));
-            least = priority + 1;
         }
     }
     best
+}
+
+/// Thread `n` is below the bound, and above the best one so far.
+fn is_next(program: &Program, bound: u32, n: usize, best: Option<ThreadId>) -> bool
+    requires known { n < length program.now.threads }
+    requires best { ForSome best (λ u. u.0 < length program.now.threads) }
+    ensures { result ≡ order.is_next program.now bound n best }
+{
+    let priority = priority_of(program, n);
+    (priority as u32) < bound
+        && match best {
+            None => true,
+            Some(u) => priority_of(program, u.0 as usize) < priority,
+        }
 }
 
 /// The priority of a thread.

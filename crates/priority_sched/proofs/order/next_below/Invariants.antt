@@ -1,11 +1,10 @@
 use Rattle.std.proofs.Common.{◌≡◌, ◌<◌, length}
 use Rattle.std.specs.Option.{ForSome}
-use Rattle.priority_sched.specs.Order.{next_among, least_above}
+use Rattle.priority_sched.specs.Order.{next_among}
 use Rattle.priority_sched.proofs.order.next_below.Given as goal
 
 abbrev pub invariant-loop-n : goal.invariant-loop-n
 invariant-loop-n l = record {
   best_is : l.best ≡ next_among l.program l.bound l.n;
-  least_is : l.least ≡ least_above l.program l.best;
   known : ForSome l.best (λ u. u.0 < length l.program.threads);
 }
