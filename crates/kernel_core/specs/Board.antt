@@ -33,6 +33,7 @@ pub record Setup : Type 0 where
   -- the state at which the run begins
   pub first : Model
 
+-- how many words of each kind the board has
 abbrev pub shape : Setup → Shape
 shape s = shape_of s.program
 
@@ -48,6 +49,7 @@ pub record Board : Type 0 where
   pub charges : List ChargeRecord
   pub begun : ℕ
 
+-- the entries so far, charge by charge
 abbrev pub journal : Board → List Entry
 journal b = journal_of b.charges b.begun
 
@@ -59,6 +61,7 @@ finds b access = slice_index b.words (address_of access)
 abbrev pub charged : Board → (ChargeRecord → ChargeRecord) → List ChargeRecord
 charged b f = slice_set b.charges (b.begun - 1) (f (charge_of b.charges (b.begun - 1)))
 
+-- the access that the kernel makes next
 abbrev pub kernel_access : Setup → Board → Access
 kernel_access s b = at_address (shape s) (wants s.program b.kernel)
 
@@ -74,6 +77,7 @@ kernel_turn s b =
       begun = b.begun;
     }
 
+-- the registers of a source
 abbrev pub row_of : Board → ℕ → Row
 row_of b i = slice_index_or b.rows i first_row
 
@@ -84,6 +88,7 @@ entry_of_source i points.Pushed = Some (Push (record { 0 = i }))
 entry_of_source i points.Refused = Some (Refuse (record { 0 = i }))
 entry_of_source i points.Skipped = Some (Skip (record { 0 = i }))
 
+-- the access that a source makes next
 abbrev pub source_access : Setup → Board → ℕ → Access
 source_access s b i = access_of (port_of (sides s) i) (readings_of s.readings i) (row_of b i)
 
@@ -103,6 +108,7 @@ source_made s b i =
 abbrev pub source_turn : Setup → Board → ℕ → Board
 source_turn s b i = if is_left (length (readings_of s.readings i)) (row_of b i) then source_made s b i else b
 
+-- the access of the clock that adds so many ticks
 abbrev pub clock_access : Setup → ℕ → Access
 clock_access s by = at_address (shape s) (places.Add Clock by)
 
@@ -110,6 +116,7 @@ clock_access s by = at_address (shape s) (places.Add Clock by)
 abbrev pub clock_turn : Setup → Board → Board
 clock_turn s b = record b { words = performed (clock_access s 1) b.words; charges = charged b with_tick }
 
+-- the board after a turn of this actor
 abbrev pub turn : Setup → Board → Actor → Board
 turn s b actors.Kernel = kernel_turn s b
 turn s b (actors.Source i) = source_turn s b i.0
@@ -131,10 +138,12 @@ pub data Move : Type 0 where
   Cut : (off : ℕ) → Move
   Turn : (actor : Actor) → Move
 
+-- the board after a cut or a turn
 abbrev pub move : Setup → Board → Move → Board
 move s b (Cut off) = cut s b off
 move s b (Turn actor) = turn s b actor
 
+-- the board after all of these, in order
 abbrev pub moved_by : Setup → Board → List Move → Board
 moved_by s b [] = b
 moved_by s b (m ∷ rest) = moved_by s (move s b m) rest

@@ -23,6 +23,7 @@ first_kernel = Boot boot_begun
 abbrev pub begin_scan : ℕ → Kernel
 begin_scan stamp = Scan stamp scan_begun
 
+-- the access of the machine that is at work
 abbrev pub wants : Program → Kernel → Access
 wants program (Boot boot) = boot_wants program boot.thread.0 boot.at
 wants program (Scan stamp scan) = scan_wants program scan.thread.0 scan.at
@@ -43,9 +44,11 @@ after_scan stamp scan (Some Quiet) = begin_scan stamp
 abbrev pub after_task : TaskMachine → Kernel
 after_task machine = if task.is_over machine.phase then begin_scan (machine.stamp + 1) else Task machine
 
+-- behind an access of the boot: a boot that is over hands over to the first scan
 abbrev pub booted : BootMachine → Kernel
 booted boot = after_boot boot (boot_stamp boot)
 
+-- behind an access of a scan: one that is over hands over to a task, or to another scan
 abbrev pub scanned : ℕ → ScanMachine → Kernel
 scanned stamp scan = after_scan stamp scan (scan_result scan.at)
 

@@ -12,11 +12,13 @@ use Rattle.kernel_core.specs.declared.made.Made.{Made}
 use Rattle.kernel_core.specs.Kernel.{point_found}
 use Rattle.kernel_core.specs.Board.{Setup, Board, sides, finds, kernel_access, source_access, clock_access, row_of, entry_of_source}
 
+-- what the kernel makes in a turn: its access, the word found, and the entry
 abbrev pub kernel_made : Setup → Board → Made
 kernel_made s b =
     let word = finds b (kernel_access s b) in
     record { access = Some (kernel_access s b); word = word; entry = entry_of_point (point_found s.program b.kernel word) }
 
+-- what a source makes that has an access left
 abbrev pub access_made : Setup → Board → ℕ → Made
 access_made s b i =
     let word = finds b (source_access s b i) in
@@ -26,12 +28,15 @@ access_made s b i =
 abbrev pub nothing_made : Made
 nothing_made = record { access = None; word = 0; entry = None }
 
+-- what a source makes in a turn
 abbrev pub source_makes : Setup → Board → ℕ → Made
 source_makes s b i = if is_left (length (readings_of s.readings i)) (row_of b i) then access_made s b i else nothing_made
 
+-- what the clock makes
 abbrev pub clock_made : Setup → Board → Made
 clock_made s b = record { access = Some (clock_access s 1); word = finds b (clock_access s 1); entry = Some (Tick 1) }
 
+-- what an actor makes in a turn
 abbrev pub made_by : Setup → Board → Actor → Made
 made_by s b actors.Kernel = kernel_made s b
 made_by s b (actors.Source i) = source_makes s b i.0
@@ -42,5 +47,6 @@ abbrev pub one_if : Option Access → ℕ
 one_if (Some access) = 1
 one_if None = 0
 
+-- so many accesses were made
 abbrev pub accesses_in : Made → ℕ
 accesses_in made = one_if made.access

@@ -29,6 +29,7 @@ abbrev pub ticks_of : Move → ℕ
 ticks_of (Cut off) = off
 ticks_of (Turn actor) = 1
 
+-- the ticks of all of them
 abbrev pub ticks : List Move → ℕ
 ticks [] = 0
 ticks (m ∷ moves) = ticks_of m + ticks moves
@@ -38,6 +39,7 @@ abbrev pub turns_of : Move → ℕ
 turns_of (Cut off) = 0
 turns_of (Turn actor) = 1
 
+-- the turns among them
 abbrev pub turns : List Move → ℕ
 turns [] = 0
 turns (m ∷ moves) = turns_of m + turns moves

@@ -13,13 +13,15 @@ not_begun sources = record { off = 0; entries = []; kernel_steps = 0; source_ste
 abbrev pub begun : ℕ → ChargeRecord → ChargeRecord
 begun off c = record c { off = off; entries = c.entries ++ Tick off ∷ [] }
 
--- an access of the kernel, of a source and of the clock
+-- with an access of the kernel
 abbrev pub with_kernel : Option Entry → ChargeRecord → ChargeRecord
 with_kernel entry c = record c { entries = noted c.entries entry; kernel_steps = c.kernel_steps + 1 }
 
+-- with an access of a source
 abbrev pub with_source : ℕ → Option Entry → ChargeRecord → ChargeRecord
 with_source i entry c = record c { entries = noted c.entries entry; source_steps = slice_set c.source_steps i (slice_index c.source_steps i + 1) }
 
+-- with a tick of the clock
 abbrev pub with_tick : ChargeRecord → ChargeRecord
 with_tick c = record c { entries = c.entries ++ Tick 1 ∷ []; tick_steps = c.tick_steps + 1 }
 

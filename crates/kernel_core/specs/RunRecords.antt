@@ -11,6 +11,7 @@ use Rattle.never_cut.specs.Stands.{Stands}
 use Rattle.kernel_core.specs.declared.run_record.RunRecord.{RunRecord}
 use Rattle.kernel_core.specs.Record.{ChargeRecord}
 
+-- the journal of a charge
 abbrev pub entries_of : ChargeRecord → List Entry
 entries_of charge = charge.entries
 

@@ -32,6 +32,7 @@ outputs_of m t = outputs_in t m.outputs
 abbrev pub room_in : Model → ℕ × PipeDef → ℕ
 room_in m (q, d) = d.places - length (pipe_of m q).items
 
+-- so for each pipe
 abbrev pub rooms : Program → Model → List ℕ
 rooms program m = map (room_in m) (enumerate_from 0 program.pipes)
 
@@ -50,6 +51,7 @@ start_at program m t e time =
       log_room = (thread_def program t).log - length (outputs_of m t);
     }
 
+-- the end of the task that the thread goes on with, from this event at this time
 abbrev pub end_at : Program → Model → ℕ → Event → ℕ → TaskEnd
 end_at program m t e time =
     task_of (task_def program (task_at program m t)).code (task_def program (task_at program m t)).limit (start_at program m t e time)
@@ -59,6 +61,7 @@ abbrev pub is_overdue : Option ℕ → ℕ → ℕ → Bool
 is_overdue None first time = false
 is_overdue (Some ticks) first time = nat_lt ticks (time - first)
 
+-- a chain of the thread that is overdue
 abbrev pub is_expired : Program → Model → ℕ → ℕ → Bool
 is_expired program m t time = is_running (thread_of m t) && is_overdue (thread_def program t).expires (thread_of m t).first time
 
@@ -77,6 +80,7 @@ taken_from (origins.Timer timer deadline) pipes = pipes
 abbrev pub next_due : ℕ → TimerModel → Option ℕ
 next_due deadline timer = if timer.period == 0 then None else Some (deadline + timer.period)
 
+-- a timer's event moves its timer on; another leaves all as they are
 abbrev pub moved_on : Origin → List TimerModel → List TimerModel
 moved_on (origins.Source source count) timers = timers
 moved_on (origins.Pipe pipe item) timers = timers
@@ -87,6 +91,7 @@ moved_on (origins.Timer timer deadline) timers =
 abbrev pub consumed : Bool → Event → Model → Model
 consumed running e m = if running then m else record m { pipes = taken_from e.origin m.pipes; timers = moved_on e.origin m.timers }
 
+-- an item that was sent stands behind those of its pipe
 abbrev pub with_item : Sent → List PipeModel → List PipeModel
 with_item s pipes = let p = slice_index_or pipes s.pipe.0 no_pipe in slice_set pipes s.pipe.0 (record p { items = p.items ++ s.value ∷ [] })
 
@@ -109,9 +114,11 @@ with_timers (s ∷ settings) timers =
 abbrev pub is_of_queue : Event → Bool
 is_of_queue e = elim e.origin [ origins.Source source count ↦ true | origins.Pipe pipe item ↦ false | origins.Timer timer deadline ↦ false ]
 
+-- the thread is idle, and a queue's event is finished
 abbrev pub with_end : Event → ThreadModel → ThreadModel
 with_end e x = record x { running = None; event = None; finished = x.finished || is_of_queue e }
 
+-- the chain goes on with this task, and keeps its event
 abbrev pub with_next : Event → TaskId → ThreadModel → ThreadModel
 with_next e task x = record x { running = Some task; event = Some e }
 
@@ -135,6 +142,7 @@ ended t e time end m =
       outputs = m.outputs ++ stamped (m.commits + 1) t end.outs;
     }
 
+-- the state with the chain of a thread expired
 abbrev pub expired : ℕ → Event → Model → Model
 expired t e m = record m { threads = slice_set m.threads t (expired_after e (thread_of m t)) }
 
@@ -144,6 +152,7 @@ committed program t e time m =
     let next = if is_expired program m t time then expired t e m else ended t e time (end_at program m t e time) (consumed (is_running (thread_of m t)) e m) in
     record next { commits = m.commits + 1; scan = None }
 
+-- what a commit of the thread makes of the state, at the time of the scan, where there is one and the thread has a pending event
 abbrev pub commit : Program → ℕ → Model → Model
 commit program t m =
     elim m.scan [

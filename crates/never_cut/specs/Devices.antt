@@ -28,6 +28,7 @@ pub record IsPipeTold (program : Program) (words : Memory) (m : Model) (q : ℕ)
 abbrev pub due_of_timer : Program → Memory → (j : ℕ) → ℕ
 due_of_timer program words j = committed words (timer_def program j).thread.0 (header.due j)
 
+-- and its period
 abbrev pub period_of_timer : Program → Memory → (j : ℕ) → ℕ
 period_of_timer program words j = committed words (timer_def program j).thread.0 (header.period j)
 
@@ -49,5 +50,6 @@ pub record AreDevicesTold (program : Program) (words : Memory) (m : Model) : Typ
   pub timers : (j : ℕ) → j < length program.timers → IsTimerTold program words m j
   pub chains : (t : ℕ) → t < length program.threads → IsExpiryTold words m t
 
+-- the private words of a board that stand for a state tell all of its devices
 abbrev pub EveryDeviceTold : Type 0
 EveryDeviceTold = (program : Program) (words : Memory) (m : Model) → IsAccepted program → StandsPrivate words program m → AreDevicesTold program words m

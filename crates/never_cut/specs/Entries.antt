@@ -19,6 +19,7 @@ use Rattle.never_cut.specs.Commit.{commit}
 abbrev pub Readings : Type 0
 Readings = List (List ℕ)
 
+-- those of one source
 abbrev pub readings_of : Readings → ℕ → List ℕ
 readings_of readings i = slice_index_or readings i []
 
@@ -34,9 +35,11 @@ HasReading readings m i = queues.HasReading (readings_of readings i) (source_in 
 abbrev pub fed_by : Program → Model → ℕ → ThreadModel
 fed_by program m i = thread_of m (source_thread program i)
 
+-- so many events it holds
 abbrev pub held_for : Program → Model → ℕ → ℕ
 held_for program m i = length (fed_by program m i).held
 
+-- so many places it has
 abbrev pub places_for : Program → ℕ → ℕ
 places_for program i = (thread_def program (source_thread program i)).queue
 
@@ -51,6 +54,7 @@ abbrev pub ArePassed : Program → Model → ScanModel → ℕ → Type 0
 ArePassed program m scan t =
     (u : ℕ) → u < length program.threads → (thread_def program t).priority < (thread_def program u).priority → IsPassed program m scan u
 
+-- the scan hasn't looked at the thread, and the thread has no chain and no event
 abbrev pub MayLook : Model → ScanModel → ℕ → Type 0
 MayLook m scan t = (is_looked scan.looked t ≡ false) × ((thread_of m t).running ≡ None) × ((thread_of m t).held ≡ [])
 
@@ -62,6 +66,7 @@ InScan m P = elim m.scan [ None ↦ ⊥ | Some scan ↦ P scan ]
 abbrev pub IsCalm : Program → Model → Type 0
 IsCalm program m = (t : ℕ) → t < length program.threads → (thread_of m t).finished ≡ false
 
+-- what an entry asks of the state before it
 abbrev pub Legal : Program → Readings → Model → Entry → Type 0
 Legal program readings m (Push i) = (i.0 < length program.sources) × HasReading readings m i.0 × HasPlace (places_for program i.0) (queue_of (fed_by program m i.0))
 Legal program readings m (Refuse i) = (i.0 < length program.sources) × HasReading readings m i.0 × IsFull (places_for program i.0) (queue_of (fed_by program m i.0))
@@ -85,15 +90,19 @@ released x = with_queue (queues.without_first (queue_of x)) x
 abbrev pub with_accepted : SourceModel → SourceModel
 with_accepted s = source_model (queues.with_accepted (source_in s))
 
+-- it has met a full queue
 abbrev pub with_refused : SourceModel → SourceModel
 with_refused s = source_model (queues.with_refused (source_in s))
 
+-- it has passed a reading
 abbrev pub with_skipped : SourceModel → SourceModel
 with_skipped s = source_model (queues.with_skipped (source_in s))
 
+-- the scan has looked at one more thread
 abbrev pub looked : Rattle.ink_base.specs.declared.ids.ThreadId.ThreadId → ScanModel → ScanModel
 looked t scan = record scan { looked = scan.looked ++ t ∷ [] }
 
+-- what an entry makes of the state
 abbrev pub effect : Program → Readings → Model → Entry → Model
 effect program readings m (Push i) =
     with_source (with_thread m (source_thread program i.0) (pushed (next_event readings m i.0) (fed_by program m i.0))) i.0 (with_accepted (source_of m i.0))

@@ -32,6 +32,7 @@ IsTakenLast words t (origins.Source source count) = Unit {0}
 IsTakenLast words t (origins.Pipe pipe item) = item + 1 ≡ committed words t (header.taken pipe.0)
 IsTakenLast words t (origins.Timer timer deadline) = Unit {0}
 
+-- it is the thread's own, and the last that was taken where it is of a pipe
 abbrev pub IsChainOrigin : Program → Memory → (t : ℕ) → Origin → Type 0
 IsChainOrigin program words t o = IsOwnOrigin program t o × IsTakenLast words t o
 
@@ -67,6 +68,7 @@ pub record IsBlockWord (program : Program) (words : Memory) (t w : ℕ) : Type 0
 abbrev pub taken_of : Program → Memory → (q : ℕ) → ℕ
 taken_of program words q = committed words (pipe_def program q).reader.0 (header.taken q)
 
+-- and of those that were written
 abbrev pub written_of : Program → Memory → (q : ℕ) → ℕ
 written_of program words q = committed words (pipe_def program q).writer.0 (header.written q)
 
@@ -154,6 +156,7 @@ pub record IsPipeRight (program : Program) (words : Memory) (q : ℕ) : Type 0 w
   pub counts : IsPipeCount program words q
   pub items : (n : ℕ) → IsItemWord program words q n
 
+-- all that is checked of a thread's queue
 pub record IsQueueRight (program : Program) (words : Memory) (t : ℕ) : Type 0 where
   pub slots : (k : ℕ) → k < (thread_def program t).queue → IsSlotWord program words t k
   pub tail : IsTailWord program words t
@@ -161,6 +164,7 @@ pub record IsQueueRight (program : Program) (words : Memory) (t : ℕ) : Type 0 
   pub idle : IsIdleFinished program words t
   pub served : IsFirstServed program words t
 
+-- all that is checked of a source
 pub record IsSourceRight (program : Program) (words : Memory) (i : ℕ) : Type 0 where
   pub src : IsSrcWord words i
   pub counts : (j : ℕ) → j < length (held_for program words i) → IsCountWord program words i j

@@ -20,10 +20,12 @@ abbrev pub noted : List Entry → Option Entry → List Entry
 noted journal None = journal
 noted journal (Some e) = journal ++ e ∷ []
 
+-- the state after a turn that wrote an entry, or none
 abbrev pub moved : Program → Readings → Model → Option Entry → Model
 moved program readings m None = m
 moved program readings m (Some e) = effect program readings m e
 
+-- the entry that a turn wrote, if any, was legal
 abbrev pub MayNote : Program → Readings → Model → Option Entry → Type 0
 MayNote program readings m None = Unit {0}
 MayNote program readings m (Some e) = Legal program readings m e

@@ -78,6 +78,7 @@ abbrev pub state_by : Program → ℕ → Entry → Model → List ℕ → List 
 state_by program t (Commit u) m state = if u.0 == t then state_after program m t state else state
 state_by program t _ m state = state
 
+-- and so on over all entries
 abbrev pub state_from : Program → Readings → ℕ → Model → List Entry → List ℕ → List ℕ
 state_from program readings t m [] state = state
 state_from program readings t m (e ∷ entries) state = state_from program readings t (effect program readings m e) entries (state_by program t e m state)

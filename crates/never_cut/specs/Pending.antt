@@ -22,9 +22,11 @@ first_of (e ∷ es) = Some e
 abbrev pub has_item : Program → Model → ℕ → ℕ → Bool
 has_item program m t q = ((pipe_def program q).reader.0 == t) && nat_lt 0 (length (pipe_of m q).items)
 
+-- the event of its first item
 abbrev pub item_event : Model → ℕ → Event
 item_event m q = record { origin = origins.Pipe (record { 0 = q }) (pipe_of m q).taken; value = slice_index (pipe_of m q).items 0 }
 
+-- a deadline that has come
 abbrev pub is_due_by : Option ℕ → ℕ → Bool
 is_due_by None time = false
 is_due_by (Some due) time = nat_le due time
@@ -33,9 +35,11 @@ is_due_by (Some due) time = nat_le due time
 abbrev pub has_due : Program → Model → ℕ → ℕ → ℕ → Bool
 has_due program m t time j = ((timer_def program j).thread.0 == t) && is_due_by (timer_of m j).due time
 
+-- the event of a timer at its deadline
 abbrev pub timer_event : ℕ → ℕ → Event
 timer_event j due = record { origin = origins.Timer (record { 0 = j }) due; value = due % 2 ^ 32 }
 
+-- that of a timer that is on
 abbrev pub due_event : Model → Option ℕ → Option Event
 due_event m None = None
 due_event m (Some j) = elim (timer_of m j).due [ None ↦ None | Some due ↦ Some (timer_event j due) ]

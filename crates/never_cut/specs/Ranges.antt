@@ -57,6 +57,7 @@ pub record Loaded : Type 0 where
   pub running : Bool
   pub taken : Option ℕ
 
+-- before the first access
 abbrev pub nothing_loaded : Loaded
 nothing_loaded = record { time = 0; running = false; taken = None }
 

@@ -2,6 +2,7 @@
 use Rattle.never_cut.specs.declared.model.Model.{Model}
 use Rattle.never_cut.specs.declared.replaying.Replaying.{Replaying}
 
+-- the state, with its lists as they stand in a replay
 abbrev pub model_of : Replaying → Model
 model_of r =
     record {

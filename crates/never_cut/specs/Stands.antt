@@ -15,30 +15,35 @@ use Rattle.never_cut.specs.declared.model.Model.{Model}
 use Rattle.never_cut.specs.State.{thread_of, pipe_of, timer_of, source_of, queue_of, source_in}
 use Rattle.never_cut.specs.Commit.{outputs_of}
 
+-- one where it holds, else none
 abbrev pub flag : Bool → ℕ
 flag b = if b then 1 else 0
 
--- the thread writes the pipe; it reads it; the timer is its own
+-- the thread writes the pipe
 abbrev pub writes_pipe : Program → (t q : ℕ) → Bool
 writes_pipe program t q = nat_lt q (length program.pipes) && ((pipe_def program q).writer.0 == t)
 
+-- the thread reads the pipe
 abbrev pub reads_pipe : Program → (t q : ℕ) → Bool
 reads_pipe program t q = nat_lt q (length program.pipes) && ((pipe_def program q).reader.0 == t)
 
+-- the timer is the thread's own
 abbrev pub owns_timer : Program → (t j : ℕ) → Bool
 owns_timer program t j = nat_lt j (length program.timers) && ((timer_def program j).thread.0 == t)
 
--- the items that were sent to a pipe, in the block of its writer, and those that were taken, in that of its reader
+-- the items that were sent to a pipe, in the block of its writer
 abbrev pub written_word : Program → Model → ℕ → ℕ → ℕ
 written_word program m t q = if writes_pipe program t q then (pipe_of m q).taken + length (pipe_of m q).items else 0
 
+-- the items that were taken from it, in the block of its reader
 abbrev pub taken_word : Program → Model → ℕ → ℕ → ℕ
 taken_word program m t q = if reads_pipe program t q then (pipe_of m q).taken else 0
 
--- a timer's word and its period, in the block of its thread
+-- a timer's word in the block of its thread
 abbrev pub timer_word : Program → Model → ℕ → ℕ → ℕ
 timer_word program m t j = if owns_timer program t j then due_word (timer_of m j).due else 0
 
+-- its period in the same block
 abbrev pub period_word : Program → Model → ℕ → ℕ → ℕ
 period_word program m t j = if owns_timer program t j then (timer_of m j).period else 0
 
@@ -58,6 +63,7 @@ pub record Saved : Type 0 where
   pub due : ℕ → ℕ
   pub period : ℕ → ℕ
 
+-- what the words of a thread say where they stand for a state
 abbrev pub saved : Program → Model → ℕ → Saved
 saved program m t =
     record {

@@ -30,24 +30,31 @@ no_thread =
       expired = 0;
     }
 
+-- an empty pipe, of which nothing was taken
 abbrev pub no_pipe : PipeModel
 no_pipe = record { items = []; taken = 0 }
 
+-- a timer that is off
 abbrev pub no_timer : TimerModel
 no_timer = record { due = None; period = 0 }
 
+-- a source that has settled nothing
 abbrev pub no_source : SourceModel
 no_source = record { next = 0; accepted = 0; refused = false }
 
+-- a thread of a state by its number
 abbrev pub thread_of : Model → ℕ → ThreadModel
 thread_of m t = slice_index_or m.threads t no_thread
 
+-- a pipe of a state
 abbrev pub pipe_of : Model → ℕ → PipeModel
 pipe_of m q = slice_index_or m.pipes q no_pipe
 
+-- a timer of a state
 abbrev pub timer_of : Model → ℕ → TimerModel
 timer_of m j = slice_index_or m.timers j no_timer
 
+-- a source of a state
 abbrev pub source_of : Model → ℕ → SourceModel
 source_of m i = slice_index_or m.sources i no_source
 
@@ -71,6 +78,7 @@ source_model s = record { next = s.next; accepted = s.accepted; refused = s.refu
 abbrev pub with_thread : Model → ℕ → ThreadModel → Model
 with_thread m t x = record m { threads = slice_set m.threads t x }
 
+-- the state with one source in another's place
 abbrev pub with_source : Model → ℕ → SourceModel → Model
 with_source m i s = record m { sources = slice_set m.sources i s }
 
@@ -86,15 +94,19 @@ unfinished x = if x.finished then drop 1 x.held else x.held
 abbrev pub is_running : ThreadModel → Bool
 is_running x = elim x.running [ Some task ↦ true | None ↦ false ]
 
+-- a thread before anything has happened: zeros for its state
 abbrev pub open_thread : ThreadDef → ThreadModel
 open_thread d = record no_thread { state = replicate d.state 0 }
 
+-- a pipe then
 abbrev pub open_pipe : PipeDef → PipeModel
 open_pipe d = no_pipe
 
+-- a timer then, as it is declared
 abbrev pub open_timer : TimerDef → TimerModel
 open_timer d = record { due = d.due; period = d.period }
 
+-- a source then
 abbrev pub open_source : ThreadId → SourceModel
 open_source d = no_source
 

@@ -42,6 +42,7 @@ pub record IsWithinThread (program : Program) (n : ℕ) (x : ThreadModel) : Type
   pub held : All (λ e. is_of_queue e ≡ true) x.held
   pub running : ForSome x.running (λ task. task.0 < length program.tasks)
 
+-- no count of a source is above n
 pub record IsWithinSource (n : ℕ) (s : SourceModel) : Type 0 where
   pub next : s.next ≤ n
   pub accepted : s.accepted ≤ n

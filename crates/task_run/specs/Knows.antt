@@ -36,6 +36,7 @@ KnowsAt program words m r StoreEmpty = (i : ℕ) × (count : ℕ) × Releasing p
 KnowsAt program words m r Over = (r.stamp + 1 ≡ m.commits) × IsCalm program m
 KnowsAt program words m r _ = Serving program words m r
 
+-- what the registers know, by the phase that they are in
 abbrev pub Knows : Program → Memory → Model → TaskMachine → Type 0
 Knows program words m r = KnowsAt program words m r r.phase
 

@@ -37,9 +37,11 @@ use Rattle.task_run.specs.Endings.{next_by, total_word}
 abbrev pub execution_of : TaskId → Execution
 execution_of task = record { task = task; at = 0; registers = replicate 16 0; executed = 0 }
 
+-- the registers of the instruction's own meaning
 abbrev pub cpu_of : Execution → Cpu
 cpu_of x = record { at = x.at; registers = x.registers }
 
+-- what a task is given: its event, and the time of the scan
 abbrev pub given_by : TaskMachine → Given
 given_by r = record { event = r.pick.event; time = r.pick.time }
 
@@ -64,6 +66,7 @@ abbrev pub is_overdue : Option ℕ → Option TaskId → (first time : ℕ) → 
 is_overdue (Some ticks) (Some task) first time = is_expired ticks first time
 is_overdue _ _ first time = false
 
+-- the chain that was picked has expired at the time of the scan
 abbrev pub is_late : Program → TaskMachine → Bool
 is_late program r = is_overdue (thread_def program r.pick.thread.0).expires r.pick.running r.pick.first r.pick.time
 
@@ -71,6 +74,7 @@ is_late program r = is_overdue (thread_def program r.pick.thread.0).expires r.pi
 abbrev pub output_of : TaskMachine → (value : ℕ) → Output
 output_of r value = record { stamp = r.stamp + 1; thread = r.pick.thread; value = value }
 
+-- the load of the next code word
 abbrev pub fetch : TaskMachine → Action
 fetch r = Make (Load (Code r.execution.task.0 r.execution.at))
 
@@ -78,6 +82,7 @@ fetch r = Make (Load (Code r.execution.task.0 r.execution.at))
 abbrev pub sending : Program → Sending → (written : ℕ) → Access
 sending program s written = Store (Ring s.pipe (ring_index (pipe_def program s.pipe).places written)) s.value
 
+-- what is done next: a word written to the block, a word read from it, or an access that is no matter of the block
 abbrev pub action : Program → TaskMachine → Phase → Action
 action program r WriteFirst = Put header.first r.pick.time
 action program r WriteOrigin = Put header.origin (origin_word r.pick.event.origin)
@@ -110,6 +115,7 @@ action program r (StoreAck source count) = Make (Store (Ack source.0) ((count + 
 action program r StoreEmpty = Make (emptying program r)
 action program r Over = Make (Load Clock)
 
+-- the access that this takes next; a first write to a page copies the page first
 abbrev pub access_of : TaskMachine → Action → Access
 access_of r (Put word value) = put_access r.pick.thread.0 r.buffer word value
 access_of r (Get word) = get_access r.pick.thread.0 r.buffer word
@@ -119,6 +125,7 @@ access_of r (Make access) = access
 abbrev pub want : Program → TaskMachine → Access
 want program r = access_of r (action program r r.phase)
 
+-- the same registers in another phase
 abbrev pub at_phase : TaskMachine → Phase → TaskMachine
 at_phase r phase = record r { phase = phase }
 
@@ -136,6 +143,7 @@ phase_again (Some task) = WriteNext
 abbrev pub trap : TaskMachine → TaskMachine
 trap r = record r { buffer = no_writes r.buffer.commit; ending = endings.Trapped; phase = phase_again r.pick.running }
 
+-- one more instruction was executed
 abbrev pub stepped : Execution → Cpu → Execution
 stepped x cpu = record { task = x.task; at = cpu.at; registers = cpu.registers; executed = x.executed + 1 }
 
@@ -165,6 +173,7 @@ abbrev pub instr_of : Option Instr → Instr
 instr_of None = instrs.Done
 instr_of (Some instr) = instr
 
+-- the registers behind an instruction
 abbrev pub after_fetch : Program → TaskMachine → Instr → TaskMachine
 after_fetch program r instr = after_act program r (act_of instr (given_by r) (cpu_of r.execution))
 
@@ -185,6 +194,7 @@ end_phase (origins.Source source count) = WriteFinished
 end_phase (origins.Pipe pipe item) = ReadTotal
 end_phase (origins.Timer timer deadline) = ReadTotal
 
+-- behind the word of the next task: a service that goes on has its stamp left to write, one that ends its counts
 abbrev pub after_next : Ending → Origin → Phase
 after_next (endings.Next task) origin = WriteStamp
 after_next _ origin = end_phase origin
@@ -195,6 +205,7 @@ release_phase (origins.Source source count) = StoreAck source count
 release_phase (origins.Pipe pipe item) = Over
 release_phase (origins.Timer timer deadline) = Over
 
+-- behind the commit: a service that goes on is over, one that ends releases its event
 abbrev pub after_commit : Ending → Origin → Phase
 after_commit (endings.Next task) origin = Over
 after_commit _ origin = release_phase origin
@@ -251,6 +262,7 @@ after_action program r (Put w v) word =
 after_action program r (Get w) word = after program r r.phase word
 after_action program r (Make access) word = after program r r.phase word
 
+-- the registers behind an access that found this word
 abbrev pub take : Program → TaskMachine → ℕ → TaskMachine
 take program r word = after_action program r (action program r r.phase) word
 
@@ -260,9 +272,11 @@ point_at r StoreCommit = points.Commit r.pick.thread
 point_at r StoreEmpty = points.Release r.pick.thread
 point_at r _ = points.Nothing
 
+-- the entry that the next access writes, if any
 abbrev pub point : TaskMachine → KernelPoint
 point r = point_at r r.phase
 
+-- the seat of the event that is served
 abbrev pub slot_of : TaskMachine → SlotAt
 slot_of r = record { thread = r.pick.thread; position = r.pick.position }
 
@@ -272,6 +286,7 @@ slot_at r (StoreAck source count) = Some (slot_of r)
 slot_at r StoreEmpty = Some (slot_of r)
 slot_at r _ = None
 
+-- nothing is left to do
 abbrev pub is_over : Phase → Bool
 is_over Over = true
 is_over _ = false
@@ -281,6 +296,7 @@ abbrev pub running_task : Option TaskId → TaskId
 running_task None = record { 0 = 0 }
 running_task (Some task) = task
 
+-- the registers before the first access of the service that a scan picked
 abbrev pub begin : Pick → ℕ → TaskMachine
 begin pick stamp =
     record {

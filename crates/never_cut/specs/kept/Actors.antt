@@ -83,6 +83,7 @@ IsAllowedStore program words m Clock v = ⊥
 IsAllowedStore program words m (Src i) v = ⊥
 IsAllowedStore program words m _ v = Unit {0}
 
+-- the accesses that sources and clock leave to the kernel
 abbrev pub IsAllowed : Program → Memory → Model → Access → Type 0
 IsAllowed program words m (Load p) = Unit {0}
 IsAllowed program words m (Store p v) = IsAllowedStore program words m p v

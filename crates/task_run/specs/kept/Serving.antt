@@ -63,6 +63,7 @@ assignment program m pick =
 abbrev pub whole : Assignment → Saved → RunEnd
 whole a x = run_of a.code a.limit a.given a.room x.state
 
+-- and what it leaves
 abbrev pub end_of : Assignment → Saved → TaskEnd
 end_of a x = task_end a.limit x.state (whole a x)
 
@@ -90,9 +91,11 @@ abbrev pub due_with : List TimerSet → (ℕ → ℕ) → ℕ → ℕ
 due_with [] f = f
 due_with (s ∷ settings) f = due_with settings (changed f s.timer.0 (due_word s.due))
 
+-- periods after a setting: a timer that is stopped keeps its own
 abbrev pub period_by : TimerSet → (ℕ → ℕ) → ℕ → ℕ
 period_by s f = elim s.due [ None ↦ f | Some due ↦ changed f s.timer.0 s.period ]
 
+-- and after several
 abbrev pub period_with : List TimerSet → (ℕ → ℕ) → ℕ → ℕ
 period_with [] f = f
 period_with (s ∷ settings) f = period_with settings (period_by s f)
@@ -108,28 +111,33 @@ with_effects stamp t e x =
       period = period_with e.timers x.period;
     }
 
--- idle, with one more queue event finished, and with one more service counted
+-- the thread is idle
 abbrev pub rested : Saved → Saved
 rested x = record x { running = None }
 
+-- one more event of its queue is finished
 abbrev pub finish : Saved → Saved
 finish x = record x { ended = x.ended + 1 }
 
+-- where the event is its queue's
 abbrev pub finished_by : Origin → Saved → Saved
 finished_by (origins.Source source count) x = finish x
 finished_by (origins.Pipe pipe item) x = x
 finished_by (origins.Timer timer deadline) x = x
 
+-- the count that an ending raises
 abbrev pub total_of : Ending → Saved → ℕ
 total_of endings.Trapped x = x.trapped
 total_of endings.Expired x = x.expired
 total_of _ x = x.served
 
+-- with another number in that count
 abbrev pub with_total : Ending → ℕ → Saved → Saved
 with_total endings.Trapped n x = record x { trapped = n }
 with_total endings.Expired n x = record x { expired = n }
 with_total _ n x = record x { served = n }
 
+-- with one more service of this ending
 abbrev pub counted : Ending → Saved → Saved
 counted ending x = with_total ending (total_of ending x + 1) x
 
@@ -165,6 +173,7 @@ pub record Executing (x : Saved) (a : Assignment) (pick : Pick) (stamp : ℕ) (e
   -- another instruction follows behind it
   pub goes_on : e.at + 1 < length a.code
 
+-- the run was trapped
 abbrev pub IsTrap : RunEnd → Type 0
 IsTrap (Ended outcome effects left) = ⊥
 IsTrap (Trapped code left) = Unit {0}
@@ -189,6 +198,7 @@ IsEnd a x ending = elim a.late [ true ↦ ending ≡ endings.Expired | false ↦
 abbrev pub effects_of : TaskEnd → Effects
 effects_of end = record { state = end.state; sends = end.sends; outs = end.outs; timers = end.timers }
 
+-- the effects of the service: those of the task, or none of an expired chain
 abbrev pub result : Assignment → Saved → Effects
 result a x = if a.late then no_effects x.state else effects_of (end_of a x)
 
@@ -196,6 +206,7 @@ result a x = if a.late then no_effects x.state else effects_of (end_of a x)
 abbrev pub worked : Saved → Assignment → Pick → ℕ → Saved
 worked x a pick stamp = with_effects (stamp + 1) pick.thread.0 (result a x) (begun pick x)
 
+-- the thread after the whole service
 abbrev pub served : Saved → Assignment → Pick → ℕ → Ending → Saved
 served x a pick stamp ending = concluded ending pick.event.origin (worked x a pick stamp)
 
@@ -231,9 +242,11 @@ pub record Told : Type 0 where
   pub o : ℕ
   pub v : ℕ
 
+-- the same, of what is told of a service
 abbrev pub RunningIn : Told → Type 0
 RunningIn p = Running p.x p.a p.pick p.stamp p.ending p.execution p.y p.sends p.o p.v
 
+-- the same, with the instruction at hand
 abbrev pub ExecutingIn : Told → Act → Type 0
 ExecutingIn p act = Executing p.x p.a p.pick p.stamp p.ending p.execution p.y p.sends p.o p.v act
 
@@ -254,6 +267,7 @@ pub record Finishing (p : Told) (y : Saved) : Type 0 where
   pub origin : p.o ≡ origin_word p.pick.event.origin
   pub value : p.v ≡ p.pick.event.value
 
+-- the thread with the effects of the task, of what is told
 abbrev pub worked_in : Told → Saved
 worked_in p = worked p.x p.a p.pick p.stamp
 
@@ -341,6 +355,7 @@ IsReady words t b (Put w v) = IsUnderWay words t b (w / 8)
 IsReady words t b (Get w) = b.copying ≡ Loading 0
 IsReady words t b (Make access) = b.copying ≡ Loading 0
 
+-- what is told of the service of these registers
 abbrev pub told : Program → Model → TaskMachine → (y : Saved) → (sends : List Sent) → (s o v : ℕ) → Told
 told program m r y sends s o v =
     record {
