@@ -13,6 +13,7 @@ ghost use Rattle.task_asm.specs.Task.{line_in};
 use crate::finish::finish;
 use crate::task::read_line;
 use ink_base::checks::{end, word};
+use ink_base::limits::TEXT_BYTES;
 use ink_base::lines::split_line;
 use ink_base::{Cause, JobAnswer, JobFault, LineError, Token, Tokens};
 use sqlite_items::Items;
@@ -181,7 +182,7 @@ pub fn read_program(
     text: &[u8],
     tokens: &Tokens,
 ) -> Result<(Program, Lines, u32), JobAnswer>
-    requires short { length text.now ≤ 4194304 }
+    requires short { length text.now ≤ TEXT_BYTES }
     requires tokens { AreTokens text.now tokens.now.list.items tokens.now.lines }
     ensures given { GivesJob (λ x. (x.0, x.1, token_lines text.now (drop x.2 tokens.now.list.items))) result (program_at text.now) }
     ensures within { IfOk result (λ x. x.2 ≤ length tokens.now.list.items) }

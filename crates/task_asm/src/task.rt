@@ -8,6 +8,7 @@ ghost use Rattle.task_lines.specs.Place.{HasPlace};
 ghost use Rattle.task_asm.specs.Task.{label_of, label_line, instr_line, end_line, inside_line, line_in};
 
 use ink_base::checks::{end, word};
+use ink_base::limits::{INSTRUCTIONS, TASKS};
 use ink_base::{LineError, Token};
 use std::alloc::Global;
 use task_lines::{Draft, DraftLine, DraftTask, fresh, op_of, read_operands, read_outside, room};
@@ -31,7 +32,7 @@ fn read_label(
     name: &[u8],
     words: &[Token],
 ) -> Result<(), LineError>
-    requires { length draft.old.tasks < 256 }
+    requires { length draft.old.tasks < TASKS }
     ensures given { Leaves result draft.new (label_line draft.old task name.now (words_of text.now words.now)) }
     ensures place { OnOk result (HasPlace draft.new) }
 {
@@ -53,12 +54,12 @@ fn read_instr(
     word: &[u8],
     words: &[Token],
 ) -> Result<(), LineError>
-    requires { length draft.old.tasks < 256 }
+    requires { length draft.old.tasks < TASKS }
     ensures given { Leaves result draft.new (instr_line draft.old task line word.now (words_of text.now words.now)) }
     ensures place { OnOk result (HasPlace draft.new) }
 {
     let op = op_of(word)?;
-    room(4096, draft.count as usize)?;
+    room(INSTRUCTIONS, draft.count as usize)?;
     let instr = read_operands(alloc, draft, task.thread, op, text, words)?;
     task.code.push(DraftLine { line, instr })?;
     draft.current = Some(task);
@@ -74,7 +75,7 @@ fn read_end(
     words: &[Token],
 ) -> Result<(), LineError>
     requires closed { IsNone draft.old.current }
-    requires place { length draft.old.tasks < 256 }
+    requires place { length draft.old.tasks < TASKS }
     ensures given { Leaves result draft.new (end_line draft.old task (words_of text.now words.now)) }
     ensures place { OnOk result (HasPlace draft.new) }
 {
@@ -94,7 +95,7 @@ fn read_inside(
     words: &[Token],
 ) -> Result<(), LineError>
     requires closed { IsNone draft.old.current }
-    requires place { length draft.old.tasks < 256 }
+    requires place { length draft.old.tasks < TASKS }
     ensures given { Leaves result draft.new (inside_line draft.old task line word.now (words_of text.now words.now)) }
     ensures place { OnOk result (HasPlace draft.new) }
 {
