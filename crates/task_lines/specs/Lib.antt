@@ -6,4 +6,5 @@ pub mod Devices
 pub mod Ops
 pub mod Operands
 pub mod Outside
+pub mod Task
 pub mod kept
