@@ -99,14 +99,3 @@ place_of_one test (task ∷ tasks) h =
 
 pub task_found : (program : Program) (t : ℕ) → has_task program.tasks t ≡ true → first_task program t < length program.tasks
 task_found program t h = place_of_one (λ (task : Task). eqb task.thread.0 t) program.tasks h
-
--- an item before a place whose test fails at each item before it
-pub untaken : {X : Type 0} (test : X → Bool) (xs : List X) (i k : ℕ) (d : X) → i < k → k < length xs → list_any test (take k xs) ≡ false → test (get_or xs i d) ≡ false
-untaken test xs i k d below within none =
-    elim (cases_Bool (test (get_or xs i d))) [
-      | inl passes ↦ absurd (false≢true (sym none ∙ list_any_at test (take k xs) i d (rw (length-take k xs) (omega arith)) (ap test (get_or-take k xs i d below) ∙ passes)))
-      | inr fails ↦ fails
-    ]
-
-pub names_differ : (v w : List ℕ) → bytes_eq v w ≡ false → v ≢ w
-names_differ v w h e = absurd (false≢true (sym h ∙ (bytes_eq-Decides v w).1 e))

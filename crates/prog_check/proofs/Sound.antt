@@ -12,7 +12,8 @@ use Rattle.prog_check.specs.Lookup.{no_thread_def, no_pipe_def, no_timer_def, no
 use Rattle.prog_check.specs.Accepted.{HasCounts, HasDistinct, AreReadBack, IsRightTask, IsAccepted}
 use Rattle.prog_check.specs.Faults.{is_between, is_thread_within, is_thread_taken, thread_fault, has_thread, source_fault, is_pipe_taken, is_pipe_owned, pipe_fault, is_timer_within, is_timer_taken, timer_fault, is_owned, instr_fault, is_task_taken, task_fault, limit_fault, has_task, served_fault, is_aimed, stays, target_fault, has_end, code_fault, meaning_fault, first_fault}
 use Rattle.prog_check.proofs.Below.{or_else_none, unless_none, each_none}
-use Rattle.prog_check.proofs.Passed.{between, thread_within, pipe_right, timer_right, instr_right, task_ends, task_found, untaken, names_differ}
+use Rattle.prog_check.proofs.Passed.{between, thread_within, pipe_right, timer_right, instr_right, task_ends, task_found}
+use Rattle.prog_check.proofs.Apart.{untaken, names_differ}
 
 -- the conditions that a declaration meets where it has no fault
 pub record ThreadMeets (program : Program) (t : ℕ) : Type 0 where

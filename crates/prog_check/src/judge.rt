@@ -1,6 +1,6 @@
 //! The judgement of a program.
 
-ghost use Rattle.std.specs.Prelude.{◌≡◌, IfOk};
+ghost use Rattle.std.specs.Prelude.{◌≡◌, ◌↔◌, IfOk, IsOk};
 ghost use Rattle.std.specs.Result.{result_err};
 ghost use Rattle.prog_check.specs.Accepted.{IsAccepted};
 ghost use Rattle.prog_check.specs.Faults.{first_fault, verdict};
@@ -25,7 +25,8 @@ fn judge_program(program: &Program, lines: &Lines) -> Result<(), JobFault>
 /// its instruction, task or thread, else at that of the program's header; a part that `lines` doesn't list has line 0.
 /// It takes no memory, and never answers that there was none.
 pub fn check(program: Program, lines: &Lines) -> Result<Accepted, JobAnswer>
-    ensures { result ≡ verdict program (first_fault program lines.now) }
+    ensures verdict { result ≡ verdict program (first_fault program lines.now) }
+    ensures exact { IsOk result ↔ IsAccepted program }
 {
     match judge_program(&program, lines) {
         Ok(()) => Ok(Accepted::new(program)),

@@ -12,11 +12,11 @@ use Rattle.task_isa.specs.declared.program.ThreadDef.{ThreadDef}
 use Rattle.task_isa.specs.declared.program.Task.{Task}
 use Rattle.task_isa.specs.declared.program.Program.{Program}
 use Rattle.prog_check.specs.Accepted.{AreDistinct, IsAccepted}
+use Rattle.prog_check.proofs.Apart.{none_before, fresh_before}
 use Rattle.task_lines.specs.Devices.{pipe_name, timer_name}
 use Rattle.task_lines.specs.Forms.{thread_name}
 use Rattle.program_text.specs.Typed.{IsTyped}
 use Rattle.program_text.proofs.LineByLine.{all_behind, by_number}
-use Rattle.program_text.proofs.NamesAgain.{none_before, fresh_again}
 use Rattle.program_text.proofs.FormsAgain.{IsNew, CanThread}
 use Rattle.program_text.proofs.InstrsAgain.{CanCode}
 use Rattle.program_text.proofs.TasksAgain.{CanInstrs}
@@ -29,7 +29,7 @@ new_again : {X : Type 0} (name : X → Word) (most : ℕ) (xs : List X) (d : X) 
 new_again name most xs d i lt le named apart = record {
   room = omega (arith, length-take-le i xs (omega arith));
   named = named;
-  fresh = fresh_again name xs d i lt apart;
+  fresh = fresh_before name xs d i lt apart;
 }
 
 thread_can : (program : Program) → IsAccepted program → IsTyped program → (i : ℕ) → i < length program.threads → CanThread (take i program.threads) (thread_def program i)
@@ -98,7 +98,7 @@ task_can program line is typed i lt =
       new = record {
         room = omega (arith, drafted_size program line 0 before, length-take-le i program.tasks (omega arith), is.counts.tasks);
         named = (typed.tasks i no_task_def lt).name;
-        fresh = drafted_taken program line 0 before (task_def program i).name ∙ fresh_again (λ (t : Task). t.name) program.tasks no_task_def i lt is.distinct.tasks;
+        fresh = drafted_taken program line 0 before (task_def program i).name ∙ fresh_before (λ (t : Task). t.name) program.tasks no_task_def i lt is.distinct.tasks;
       };
       thread = right.thread;
       limit_least = right.limit_least;

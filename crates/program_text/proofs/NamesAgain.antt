@@ -9,15 +9,13 @@ use Rattle.std.proofs.lemmas.List.Folds.{list_any_none}
 use Rattle.std.proofs.lemmas.Slice.Eq.{bytes_eq-Decides}
 use Rattle.ink_base.specs.Lines.{Word}
 use Rattle.prog_check.specs.Accepted.{AreDistinct}
+use Rattle.prog_check.proofs.Apart.{differ}
 use Rattle.task_lines.specs.Named.{place_of, is_taken, fresh_of, new_name_in, declared_in}
 use Rattle.ink_base.specs.Checks.{word_in}
 use Rattle.task_isa.specs.Names.{is_name}
 
 pub same : (w : Word) → bytes_eq w w ≡ true
 same w = (bytes_eq-Decides w w).1 refl
-
-pub differ : (v w : Word) → (v ≡ w → ⊥) → bytes_eq v w ≡ false
-differ v w h = false_from_ne_true (bytes_eq v w) (λ e. h ((bytes_eq-Decides v w).0 e))
 
 pub place_again : {X : Type 0} (name : X → Word) (xs : List X) (d : X) (i : ℕ) → i < length xs → AreDistinct (λ k. name (get_or xs k d)) (length xs) → place_of name xs (name (get_or xs i d)) ≡ Some i
 place_again name xs d i lt apart =
@@ -31,19 +29,6 @@ pub declared_again : {X : Type 0} (name : X → Word) (xs : List X) (d : X) (i :
     → declared_in name xs (name (get_or xs i d) ∷ ws) ≡ Ok (i, ws)
 unfolding declared_in word_in
 declared_again name xs d i ws lt apart = rw (place_again name xs d i lt apart) refl
-
--- no item before it has its key
-pub none_before : {X : Type 0} (p : X → Bool) (xs : List X) (d : X) (i : ℕ) → i < length xs → ((k : ℕ) → k < i → p (get_or xs k d) ≡ false) → list_any p (take i xs) ≡ false
-none_before p xs d i lt h =
-    list_any_none p (take i xs) (λ k e below.
-    let size : length (take i xs) ≡ i = length-take-le i xs (omega arith) in
-    let small : k < i = omega (arith, size) in
-    ap p (get_or-take i xs k e small ∙ get_or_default xs k e d (omega arith)) ∙ h k small)
-
-pub fresh_again : {X : Type 0} (name : X → Word) (xs : List X) (d : X) (i : ℕ) → i < length xs → AreDistinct (λ k. name (get_or xs k d)) (length xs)
-    → is_taken name (take i xs) (name (get_or xs i d)) ≡ false
-fresh_again name xs d i lt apart =
-    none_before (λ x. bytes_eq (name x) (name (get_or xs i d))) xs d i lt (λ k below. differ (name (get_or xs k d)) (name (get_or xs i d)) (apart k i below lt))
 
 pub new_name_again : {X : Type 0} (name : X → Word) (items : List X) (w : Word) (ws : List Word) → is_name w ≡ true → is_taken name items w ≡ false → new_name_in name items (w ∷ ws) ≡ Ok (w, ws)
 unfolding new_name_in word_in fresh_of

@@ -8,6 +8,7 @@ use Rattle.task_isa.specs.Lookup.{instr_at}
 use Rattle.task_isa.specs.declared.program.Task.{Task}
 use Rattle.task_isa.specs.declared.program.Program.{Program}
 use Rattle.prog_check.specs.Accepted.{IsAccepted}
+use Rattle.prog_check.proofs.Complete.{no_fault}
 use Rattle.task_lines.specs.declared.draft.DraftLine.{DraftLine}
 use Rattle.task_lines.specs.declared.draft.DraftTask.{DraftTask}
 use Rattle.program_text.specs.Print.{print_of}
@@ -91,4 +92,5 @@ reads_back program is typed after =
       ap (program_in count) (cut ∙ ap (λ (x : List Line). with_numbers 1 lss ++ x) (header_line n after))
           ∙ whole_again count n program (with_words (numbered (n + 1) (lines after))) (accepted_can program is typed) plain.1
           ∙ ap (λ (x : List Line). Ok (program, parts_of program, x)) (sym (header_line n after) ∙ ap (λ (k : ℕ). with_words (numbered k (lines more))) numbers),
+      no_fault program (parts_of program) is,
     )

@@ -7,3 +7,4 @@ pub mod Ops
 pub mod Operands
 pub mod Outside
 pub mod Task
+pub mod kept

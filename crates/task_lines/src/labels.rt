@@ -4,23 +4,33 @@ use std::alloc::{AllocError, Global};
 use std::collections::BTreeMap;
 use std::marker::Model;
 
-/// The labels of a task: the offset of each, by its name. A text may have hundreds of thousands of them, so they are found by search in
-/// an ordered map.
+/// A label of a task: how many of the task's labels stand on earlier lines, and the number of instructions before it.
+#[derive(Clone, Copy)]
+struct Label {
+    place: usize,
+    offset: u32,
+}
+
+/// The labels of a task. A text may have hundreds of thousands of them, so they are found by search in an ordered map. Contracts see
+/// them as the list of their names and offsets, in the order of their lines.
 #[derive(Drop)]
 pub struct Labels {
-    offsets: BTreeMap<Vec<u8>, u32>,
+    labels: BTreeMap<Vec<u8>, Label>,
 }
 
 impl Model for Labels {
-    ghost use Rattle.std.specs.Prelude.{ℕ, List, map};
+    ghost use Rattle.std.specs.Prelude.{ℕ, List};
+    ghost use Rattle.task_lines.specs.kept.Placed.{seen, listed, AreKept};
 
     ghost Value = { List (List ℕ × ℕ) };
 
-    ghost view = { λ l. map (λ e. (e.0.items, e.1)) l.offsets.entries };
+    ghost view = { λ l. listed (seen (λ k. k.items) l.labels.entries) };
+
+    ghost invariant = { λ l. AreKept (seen (λ k. k.items) l.labels.entries) };
 }
 
 impl Labels {
-    ghost use Rattle.std.specs.Prelude.{◌≡◌, [], OnOk};
+    ghost use Rattle.std.specs.Prelude.{◌≡◌, [], None, OnOk};
     ghost use Rattle.task_lines.specs.Labels.{offset_of, with_label};
 
     /// No labels.
@@ -28,7 +38,7 @@ impl Labels {
         ensures { result ≡ [] }
     {
         Labels {
-            offsets: BTreeMap::new(alloc),
+            labels: BTreeMap::new(alloc),
         }
     }
 
@@ -36,15 +46,20 @@ impl Labels {
     pub fn get(&self, name: &[u8]) -> Option<u32>
         ensures { result ≡ offset_of self.now name.now }
     {
-        self.offsets.get(name).copied()
+        match self.labels.get(name) {
+            Some(label) => Some(label.offset),
+            None => None,
+        }
     }
 
-    /// Adds the label of this name, or sets its offset where it is there.
+    /// Adds the label of this name, which none has yet, behind the others.
     pub fn insert(&mut self, alloc: Global, name: &[u8], offset: u32) -> Result<(), AllocError>
+        requires { offset_of self.old name.now ≡ None }
         ensures { OnOk result (self.new ≡ with_label self.old name.now offset) }
     {
+        let place = self.labels.len();
         let key = Vec::from_slice(alloc, name)?;
-        self.offsets.insert(key, offset)?;
+        self.labels.insert(key, Label { place, offset })?;
         Ok(())
     }
 }

@@ -1,7 +1,18 @@
-use Rattle.std.proofs.Common.{ap, ◌∙◌}
+-- What the map finds is what the list finds.
+use Rattle.std.proofs.Common.{◌≡◌, ℕ, List, Option, sym, ap, ◌∙◌}
+use Rattle.std.specs.Option.{option_map}
+use Rattle.ink_base.specs.Lines.{Word}
 use Rattle.task_lines.specs.Labels.{offset_of}
+use Rattle.task_lines.specs.declared.labels.Label.{Label}
 use Rattle.task_lines.proofs.LabelMap.{lookup_seen}
 use Rattle.task_lines.proofs.labels.Labels.get.Goals as goal
 
-pub returns : goal.returns
-returns c = c.copied.ensures ∙ c.get.ensures.value ∙ lookup_seen (λ k. k.items) c.args.name.now c.self.inside.offsets.entries ∙ ap (λ labels. offset_of labels c.args.name.now) c.self.view_is
+pub returns-in-Some : goal.returns-in-Some
+returns-in-Some c =
+    ap (option_map (λ (l : Label). l.offset)) (c.in-Some.ensures.value ∙ lookup_seen (λ k. k.items) c.args.name.now c.self.inside.labels.entries)
+    ∙ sym (c.self.invariant.agree c.args.name.now) ∙ ap (λ (l : List (Word × ℕ)). offset_of l c.args.name.now) c.self.view_is
+
+pub returns-in-None : goal.returns-in-None
+returns-in-None c =
+    ap (option_map (λ (l : Label). l.offset)) (c.in-None.ensures.value ∙ lookup_seen (λ k. k.items) c.args.name.now c.self.inside.labels.entries)
+    ∙ sym (c.self.invariant.agree c.args.name.now) ∙ ap (λ (l : List (Word × ℕ)). offset_of l c.args.name.now) c.self.view_is
