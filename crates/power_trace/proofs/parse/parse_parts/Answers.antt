@@ -1,7 +1,7 @@
--- Each section keeps its limits, and the check the program's.
+-- Each section keeps its limits, and the check the program's; each charge has its line.
 use Rattle.power_trace.proofs.Kept.{sensors_keep}
 use Rattle.power_trace.proofs.KeptCharges.{power_keep}
-use Rattle.power_trace.proofs.parse.parse_listed.Goals as goal
+use Rattle.power_trace.proofs.parse.parse_parts.Goals as goal
 
 pub new-requires : goal.new-requires
 new-requires c =
@@ -10,5 +10,8 @@ new-requires c =
       accepted = rw (← c.accepted.view_is) c.accepted.invariant;
       sources = sensors.lists;
       readings = sensors.each;
-      charges = power_keep _ _ _ _ c.in_ok-charges.ensures;
+      charges = (power_keep _ _ _ _ _ c.in_ok-charges.ensures.given).charges;
     }
+
+pub returns-clause-lines : goal.returns-clause-lines
+returns-clause-lines c = (power_keep _ _ _ _ _ c.in_ok-charges.ensures.given).lines
