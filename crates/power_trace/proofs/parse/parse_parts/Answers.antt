@@ -1,5 +1,9 @@
 -- Each section keeps its limits, and the check the program's; each charge has its line.
+use Rattle.std.proofs.Common.{length, sym, ap, ◌∙◌}
+use Rattle.job_parts.specs.Job.{JobParts}
 use Rattle.power_trace.proofs.Kept.{sensors_keep}
+use Rattle.std.proofs.Common.{length, sym, ap, ◌∙◌}
+use Rattle.job_parts.specs.Job.{JobParts}
 use Rattle.power_trace.proofs.KeptCharges.{power_keep}
 use Rattle.power_trace.proofs.parse.parse_parts.Goals as goal
 
@@ -14,4 +18,4 @@ new-requires c =
     }
 
 pub returns-clause-lines : goal.returns-clause-lines
-returns-clause-lines c = (power_keep _ _ _ _ _ c.in_ok-charges.ensures.given).lines
+returns-clause-lines c = (power_keep _ _ _ _ _ c.in_ok-charges.ensures.given).lines ∙ sym (ap (λ (j : JobParts). length j.charges) c.new.ensures)
