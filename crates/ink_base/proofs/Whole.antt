@@ -3,8 +3,9 @@ use Rattle.std.proofs.Common.{◌≡◌, ℕ, ◌+◌, ◌<◌, cond, List, [], 
 use Rattle.std.specs.List.{flat_map}
 use Rattle.std.proofs.lemmas.Bool.{eq-eqb, ne_eqb}
 use Rattle.ink_base.specs.Lines.{Word, Line, lines, words, before_comment, numbered, lines_of}
-use Rattle.ink_base.specs.Tokens.{Entry, entries, all_entries}
-use Rattle.ink_base.specs.TokenLines.{join, grouped, has_words, with_words}
+use Rattle.ink_base.specs.Tokens.{Entry, entries, all_entries, AreTokens}
+use Rattle.ink_base.specs.TokenLines.{join, grouped, has_words, with_words, token_lines}
+use Rattle.ink_base.specs.declared.token.Token.{Token}
 
 -- the first line has a greater number
 abbrev Above : ℕ → List Line → Type 0
@@ -44,6 +45,9 @@ from_number : (n : ℕ) (ls : List (List ℕ)) → grouped (flat_map entries (nu
 from_number n [] = refl
 from_number n (l ∷ ls) = one n (words (before_comment l)) (flat_map entries (numbered (n + 1) ls)) (with_words (numbered (n + 1) ls)) (from_number (n + 1) ls) (above_worded n (n + 1) ls (omega arith))
 
--- the words of a text, grouped, are its lines that have words
-pub grouped_all : (text : List ℕ) → grouped (all_entries text) ≡ with_words (lines_of text)
+grouped_all : (text : List ℕ) → grouped (all_entries text) ≡ with_words (lines_of text)
 grouped_all text = from_number 1 (lines text)
+
+-- the tokens of a text make up its lines that have words
+pub whole_lines : (text : List ℕ) (tokens : List Token) (count : ℕ) → AreTokens text tokens count → token_lines text tokens ≡ with_words (lines_of text)
+whole_lines text tokens count are = ap grouped are.words ∙ grouped_all text

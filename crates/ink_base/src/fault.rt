@@ -27,6 +27,14 @@ pub enum Cause {
     BadOwner,
     /// A section header that is not the next one.
     BadSection,
+    /// A word of an image that isn't 16 hexadecimal digits.
+    BadWord,
+    /// An image that has another number of words than its program needs.
+    WrongShape,
+    /// An image in which a word contradicts the program or the other words.
+    NotStanding,
+    /// An image whose counts have no room left for its job.
+    Worn,
 }
 
 /// The first fault of a text: its line, counted from 1, and its cause.

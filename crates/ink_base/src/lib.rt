@@ -1,12 +1,14 @@
-//! What every layer speaks of: ids, events, journal entries, outputs, the words of a text and their checks, and the answers.
+//! What every layer speaks of: ids, events, journal entries, outputs, the limits of a job, the words of a text and their checks, and the answers.
 #![tactic(auto)]
 
+mod accept;
 mod actor;
 pub mod checks;
 mod entry;
 mod event;
 mod fault;
 mod ids;
+pub mod limits;
 mod line_error;
 pub mod lines;
 mod memory;
@@ -16,6 +18,7 @@ mod split;
 mod status;
 mod token;
 
+pub use accept::Accept;
 pub use actor::Actor;
 pub use entry::Entry;
 pub use event::{Event, Origin};

@@ -5,12 +5,13 @@ ghost use Rattle.ink_base.specs.Gives.{GivesJob};
 ghost use Rattle.ink_base.specs.Tokens.{AreTokens, bytes_in, line_number};
 
 use crate::fault::{Cause, JobAnswer, JobFault};
+use crate::limits::TEXT_BYTES;
 use crate::split::split_tokens;
 use crate::token::{TextAnswer, Tokens};
 use std::alloc::Global;
 
 fn line_number(text: &[u8], offset: usize) -> u32
-    requires short { length text.now ≤ 4194304 }
+    requires short { length text.now ≤ TEXT_BYTES }
     requires inside { offset ≤ length text.now }
     ensures { result ≡ line_number text.now offset }
 {
@@ -20,7 +21,7 @@ fn line_number(text: &[u8], offset: usize) -> u32
 
 /// The tokens of a text of at most 4,194,304 bytes, or the fault of its first byte that isn't allowed: `BadByte` at its line.
 pub fn job_tokens(alloc: Global, text: &[u8]) -> Result<Tokens, JobAnswer>
-    requires { length text.now ≤ 4194304 }
+    requires { length text.now ≤ TEXT_BYTES }
     ensures given { GivesJob (λ _. tt) result (bytes_in text.now) }
     ensures tokens { IfOk result (λ tokens. AreTokens text.now tokens.list.items tokens.lines) }
 {

@@ -5,6 +5,7 @@ ghost use Rattle.ink_base.specs.Lines.{is_allowed, is_blank, lines};
 ghost use Rattle.ink_base.specs.Tokens.{IsSplit, all_entries, entry_of, first_bad};
 ghost use Rattle.ink_base.specs.Walk.{closed, ends_word, place_after};
 
+use crate::limits::TEXT_BYTES;
 use crate::token::{TextAnswer, Token, Tokens};
 use std::alloc::{AllocError, Global};
 
@@ -35,7 +36,7 @@ fn first_bad(text: &[u8]) -> Option<usize>
 }
 
 fn count_lines(text: &[u8]) -> u32
-    requires { length text.now ≤ 4194304 }
+    requires { length text.now ≤ TEXT_BYTES }
     ensures { result ≡ length (lines text.now) }
 {
     let mut count = 0;
@@ -80,7 +81,7 @@ fn place_after(place: Place, byte: u8, at: u32) -> Place
 }
 
 fn words(alloc: Global, text: &[u8]) -> Result<Vec<Token>, AllocError>
-    requires { length text.now ≤ 4194304 }
+    requires { length text.now ≤ TEXT_BYTES }
     ensures { IfOk result (λ tokens. map (entry_of text.now) tokens.items ≡ all_entries text.now) }
 {
     let mut tokens = Vec::new(alloc);
@@ -111,7 +112,7 @@ fn words(alloc: Global, text: &[u8]) -> Result<Vec<Token>, AllocError>
 /// The words of a text of at most 4,194,304 bytes in order, each as a piece of the text, and the number of its lines.
 /// `NotAscii` exactly at the first byte that isn't printable, a tab, a carriage return or a line feed.
 pub fn split_tokens(alloc: Global, text: &[u8]) -> Result<Tokens, TextAnswer>
-    requires { length text.now ≤ 4194304 }
+    requires { length text.now ≤ TEXT_BYTES }
     ensures { IsSplit text.now result }
 {
     if let Some(offset) = first_bad(text) {

@@ -4,6 +4,5 @@
 mod finish;
 mod section;
 mod targets;
-mod task;
 
 pub use section::read_program;

@@ -1,80 +1,20 @@
 //! The section of a program.
 
-ghost use Rattle.std.specs.Prelude.{◌≡◌, ◌<◌, ◌≤◌, ◌^◌, length, drop, IfOk, OnOk};
-ghost use Rattle.ink_base.specs.Checks.{words_of};
-ghost use Rattle.ink_base.specs.Gives.{Gives, GivesJob, LeavesJob, at_line};
+ghost use Rattle.std.specs.Prelude.{◌≡◌, ◌<◌, ◌≤◌, ◌^◌, length, drop, IfOk};
+ghost use Rattle.ink_base.specs.Gives.{GivesJob};
 ghost use Rattle.ink_base.specs.Suffix.{IsSuffix};
 ghost use Rattle.ink_base.specs.TokenLines.{token_lines};
 ghost use Rattle.ink_base.specs.Tokens.{AreTokens};
-ghost use Rattle.task_asm.specs.Section.{is_header, header_in, first_header_in, section_in, program_in, program_at, empty_draft};
-ghost use Rattle.task_lines.specs.Place.{HasPlace};
-ghost use Rattle.task_asm.specs.Task.{line_in};
+ghost use Rattle.task_asm.specs.Section.{draft_end, program_in, program_at, empty_draft};
 
 use crate::finish::finish;
-use crate::task::read_line;
-use ink_base::checks::{end, word};
-use ink_base::lines::split_line;
-use ink_base::{Cause, JobAnswer, JobFault, LineError, Token, Tokens};
+use ink_base::limits::TEXT_BYTES;
+use ink_base::{JobAnswer, Token, Tokens};
+use ink_text::{index_of, missing, next_header, next_number, read_section};
 use sqlite_items::Items;
 use std::alloc::Global;
 use task_isa::{Lines, Program};
 use task_lines::{Draft, Few};
-
-fn is_header(text: &[u8], words: &[Token]) -> bool
-    ensures { result ≡ is_header (words_of text.now words.now) }
-{
-    match words {
-        [] => false,
-        [first, ..] => match word(text, first) {
-            [] => false,
-            [b, ..] => *b == b'[',
-        },
-    }
-}
-
-#[tactic(auto, unfolding(crate::specs::Section::header_in))]
-fn read_header(draft: &Draft, text: &[u8], words: &[Token]) -> Result<(), LineError>
-    ensures { Gives (λ x. x) result (header_in draft.now (words_of text.now words.now)) }
-{
-    match words {
-        [] => Err(LineError::Fault(Cause::BadSection)),
-        [first, ..] => {
-            if draft.current.is_some() {
-                Err(LineError::Fault(Cause::Missing))
-            } else if word(text, first) == b"[sensors]".as_slice() {
-                Ok(())
-            } else {
-                Err(LineError::Fault(Cause::BadSection))
-            }
-        }
-    }
-}
-
-fn judged_header(draft: &Draft, text: &[u8], line: u32, words: &[Token]) -> Result<(), JobAnswer>
-    ensures { GivesJob (λ x. x) result (at_line line (header_in draft.now (words_of text.now words.now))) }
-{
-    match read_header(draft, text, words) {
-        Ok(()) => Ok(()),
-        Err(e) => Err(e.at(line)),
-    }
-}
-
-fn judged_line(
-    alloc: Global,
-    draft: &mut Draft,
-    text: &[u8],
-    line: u32,
-    words: &[Token],
-) -> Result<(), JobAnswer>
-    requires { HasPlace draft.old }
-    ensures given { LeavesJob result draft.new (at_line line (line_in draft.old line (words_of text.now words.now))) }
-    ensures place { OnOk result (HasPlace draft.new) }
-{
-    match read_line(alloc, draft, text, line, words) {
-        Ok(()) => Ok(()),
-        Err(e) => Err(e.at(line)),
-    }
-}
 
 fn empty_draft(alloc: Global) -> Draft
     ensures { result ≡ empty_draft }
@@ -91,61 +31,16 @@ fn empty_draft(alloc: Global) -> Draft
     }
 }
 
-// The lines up to the next header, and the tokens from there on.
-fn read_section<'a>(
-    alloc: Global,
-    text: &[u8],
-    lines: u32,
-    tokens: &'a [Token],
-) -> Result<(Draft, &'a [Token]), JobAnswer>
+// The end of the section: no task is open, and the header behind it has to be that of the readings.
+#[tactic(auto, unfolding(crate::specs::Section::draft_end))]
+fn draft_end(draft: &Draft, text: &[u8], lines: u32, tokens: &[Token]) -> Result<(), JobAnswer>
     requires { lines < 2 ^ 31 }
-    ensures given { GivesJob (λ x. (x.0, token_lines text.now x.1.now)) result (section_in lines empty_draft (token_lines text.now tokens.now)) }
-    ensures suffix { IfOk result (λ x. IsSuffix x.1.now tokens.now) }
+    ensures { GivesJob (λ x. x) result (draft_end lines draft.now (token_lines text.now tokens.now)) }
 {
-    let mut draft = empty_draft(alloc);
-    let mut rest = tokens;
-    while !rest.is_empty() {
-        let (line, words, after) = split_line(rest);
-        if is_header(text, words) {
-            if let Err(e) = judged_header(&draft, text, line, words) {
-                return Err(e);
-            }
-            return Ok((draft, rest));
-        }
-        if let Err(e) = judged_line(alloc, &mut draft, text, line, words) {
-            return Err(e);
-        }
-        rest = after;
+    if draft.current.is_some() {
+        return Err(JobAnswer::Fault(missing(lines, tokens)));
     }
-    Err(JobAnswer::Fault(JobFault {
-        line: lines + 1,
-        cause: Cause::Missing,
-    }))
-}
-
-#[tactic(auto, unfolding(crate::specs::Section::first_header_in))]
-fn read_first_header(text: &[u8], words: &[Token]) -> Result<(), LineError>
-    ensures { Gives (λ x. x) result (first_header_in (words_of text.now words.now)) }
-{
-    match words {
-        [] => Err(LineError::Fault(Cause::BadSection)),
-        [first, rest @ ..] => {
-            if word(text, first) == b"[program]".as_slice() {
-                end(text, rest)
-            } else {
-                Err(LineError::Fault(Cause::BadSection))
-            }
-        }
-    }
-}
-
-fn judged_first_header(text: &[u8], line: u32, words: &[Token]) -> Result<(), JobAnswer>
-    ensures { GivesJob (λ x. x) result (at_line line (first_header_in (words_of text.now words.now))) }
-{
-    match read_first_header(text, words) {
-        Ok(()) => Ok(()),
-        Err(e) => Err(e.at(line)),
-    }
+    next_header(text, lines, tokens, b"[sensors]")
 }
 
 #[tactic(auto, unfolding(crate::specs::Section::program_in))]
@@ -159,16 +54,11 @@ fn program<'a>(
     ensures given { GivesJob (λ x. (x.0, x.1, token_lines text.now x.2.now)) result (program_in lines (token_lines text.now tokens.now)) }
     ensures suffix { IfOk result (λ x. IsSuffix x.2.now tokens.now) }
 {
-    if tokens.is_empty() {
-        return Err(JobAnswer::Fault(JobFault {
-            line: lines + 1,
-            cause: Cause::Missing,
-        }));
-    }
-    let (line, words, rest) = split_line(tokens);
-    judged_first_header(text, line, words)?;
-    let (draft, rest) = read_section(alloc, text, lines, rest)?;
-    let (program, parts) = finish(alloc, line, draft)?;
+    next_header(text, lines, tokens, b"[program]")?;
+    let mut draft = empty_draft(alloc);
+    let rest = read_section(&mut draft, alloc, text, lines, tokens)?;
+    draft_end(&draft, text, lines, rest)?;
+    let (program, parts) = finish(alloc, next_number(lines, tokens), draft)?;
     Ok((program, parts, rest))
 }
 
@@ -181,14 +71,13 @@ pub fn read_program(
     text: &[u8],
     tokens: &Tokens,
 ) -> Result<(Program, Lines, u32), JobAnswer>
-    requires short { length text.now ≤ 4194304 }
+    requires short { length text.now ≤ TEXT_BYTES }
     requires tokens { AreTokens text.now tokens.now.list.items tokens.now.lines }
     ensures given { GivesJob (λ x. (x.0, x.1, token_lines text.now (drop x.2 tokens.now.list.items))) result (program_at text.now) }
     ensures within { IfOk result (λ x. x.2 ≤ length tokens.now.list.items) }
 {
-    let all = tokens.list.as_slice();
-    match program(alloc, text, tokens.lines, all) {
-        Ok((program, lines, rest)) => Ok((program, lines, (all.len() - rest.len()) as u32)),
+    match program(alloc, text, tokens.lines, tokens.list.as_slice()) {
+        Ok((program, lines, rest)) => Ok((program, lines, index_of(tokens, rest))),
         Err(e) => Err(e),
     }
 }

@@ -5,6 +5,7 @@ use Rattle.ink_base.specs.Lines.{Word}
 use Rattle.ink_base.specs.declared.fault.Cause.{Cause}
 use Rattle.ink_base.specs.declared.fault.Cause.TheVariants.{BadOwner}
 use Rattle.ink_base.specs.declared.ids.ThreadId.{ThreadId}
+use Rattle.ink_base.specs.declared.limits.TheConstants as limits
 use Rattle.ink_base.specs.Gives.{◌>>=◌}
 use Rattle.ink_base.specs.Checks.{word_in, fixed_in, number_in, field_in, end_in}
 use Rattle.task_isa.specs.Lookup.{no_pipe_def, no_timer_def}
@@ -30,9 +31,9 @@ reader_in threads writer ws = do
 -- pipe NAME C from THREAD to THREAD
 unfoldable pub pipe_line : Draft → List Word → Result Draft Cause
 pipe_line d ws = do
-  free ← room 8 (length d.pipes)
+  free ← room limits.PIPES (length d.pipes)
   name ← new_name_in pipe_name d.pipes ws
-  places ← number_in 1 64 name.1
+  places ← number_in 1 limits.PIPE_PLACES name.1
   from ← fixed_in (codes "from") places.1
   writer ← declared_in thread_name d.threads from
   to ← fixed_in (codes "to") writer.1
@@ -43,8 +44,8 @@ pipe_line d ws = do
 -- due D period P, and the end of the line
 unfoldable pub due_in : List Word → Result (Option ℕ × ℕ) Cause
 due_in ws = do
-  due ← field_in (codes "due") 0 2147483647 ws
-  period ← field_in (codes "period") 0 2147483647 due.1
+  due ← field_in (codes "due") 0 limits.TICKS ws
+  period ← field_in (codes "period") 0 limits.TICKS due.1
   e ← end_in period.1
   Ok (Some due.0, period.0)
 
@@ -63,7 +64,7 @@ start_in ws = do
 -- timer NAME thread THREAD off, or timer NAME thread THREAD due D period P
 unfoldable pub timer_line : Draft → List Word → Result Draft Cause
 timer_line d ws = do
-  free ← room 8 (length d.timers)
+  free ← room limits.TIMERS (length d.timers)
   name ← new_name_in timer_name d.timers ws
   label ← fixed_in (codes "thread") name.1
   thread ← declared_in thread_name d.threads label

@@ -4,6 +4,7 @@ use Rattle.std.specs.List.{list_any}
 use Rattle.ink_base.specs.Lines.{Word}
 use Rattle.ink_base.specs.declared.fault.Cause.{Cause}
 use Rattle.ink_base.specs.declared.fault.Cause.TheVariants.{Duplicate, OverLimit}
+use Rattle.ink_base.specs.declared.limits.TheConstants as limits
 use Rattle.ink_base.specs.Gives.{◌>>=◌}
 use Rattle.ink_base.specs.Checks.{field_in, end_in}
 use Rattle.task_isa.specs.declared.program.ThreadDef.{ThreadDef}
@@ -23,26 +24,26 @@ has_priority threads n = list_any (λ (t : ThreadDef). t.priority == n) threads
 -- a priority that no thread has
 unfoldable pub priority_in : List ThreadDef → List Word → Result (ℕ × List Word) Cause
 priority_in threads ws = do
-  n ← field_in (codes "priority") 0 255 ws
+  n ← field_in (codes "priority") 0 limits.PRIORITY ws
   if has_priority threads n.0 then Err Duplicate else Ok n
 
 -- nothing, or `expires D`, and the end of the line
 unfoldable pub expires_in : List Word → Result (Option ℕ) Cause
 expires_in [] = Ok None
 expires_in (w ∷ ws) = do
-  ticks ← field_in (codes "expires") 0 2147483647 (w ∷ ws)
+  ticks ← field_in (codes "expires") 0 limits.TICKS (w ∷ ws)
   e ← end_in ticks.1
   Ok (Some ticks.0)
 
 -- thread NAME priority P queue N state S log L [expires D]
 unfoldable pub thread_line : Draft → ℕ → List Word → Result Draft Cause
 thread_line d line ws = do
-  free ← room 16 (length d.threads)
+  free ← room limits.THREADS (length d.threads)
   name ← new_name_in thread_name d.threads ws
   priority ← priority_in d.threads name.1
-  queue ← field_in (codes "queue") 2 32 priority.1
-  state ← field_in (codes "state") 0 256 queue.1
-  log ← field_in (codes "log") 1 4096 state.1
+  queue ← field_in (codes "queue") limits.FEWEST_QUEUE_PLACES limits.QUEUE_PLACES priority.1
+  state ← field_in (codes "state") 0 limits.STATE_NUMBERS queue.1
+  log ← field_in (codes "log") 1 limits.LOG_PLACES state.1
   expires ← expires_in log.1
   Ok (record d {
     threads = d.threads ++ record { name = name.0; priority = priority.0; queue = queue.0; state = state.0; log = log.0; expires = expires } ∷ [];
@@ -52,7 +53,7 @@ thread_line d line ws = do
 -- source THREAD
 unfoldable pub source_line : Draft → List Word → Result Draft Cause
 source_line d ws = do
-  free ← room 16 (length d.sources)
+  free ← room limits.SOURCES (length d.sources)
   thread ← declared_in thread_name d.threads ws
   e ← end_in thread.1
   Ok (record d { sources = d.sources ++ record { 0 = thread.0 } ∷ [] })

@@ -6,3 +6,4 @@ pub mod Devices
 pub mod Ops
 pub mod Operands
 pub mod Outside
+pub mod Task

@@ -1,5 +1,5 @@
 -- The checks of names.
-use Rattle.std.specs.Prelude.{ℕ, Bool, not, List, Option, Some, None, Result, Ok, Err, if◌then◌else◌, position}
+use Rattle.std.specs.Prelude.{ℕ, Bool, not, List, Option, Result, Ok, Err, if◌then◌else◌, position}
 use Rattle.std.specs.List.{list_any}
 use Rattle.std.specs.Str.{bytes_eq}
 use Rattle.ink_base.specs.Lines.{Word}
@@ -7,6 +7,7 @@ use Rattle.ink_base.specs.declared.fault.Cause.{Cause}
 use Rattle.ink_base.specs.declared.fault.Cause.TheVariants.{UnknownWord, Duplicate}
 use Rattle.ink_base.specs.Gives.{◌>>=◌}
 use Rattle.ink_base.specs.Checks.{word_in}
+use Rattle.ink_text.specs.Words.{found}
 use Rattle.task_isa.specs.Names.{is_name}
 
 -- the place of the first item with this name
@@ -31,10 +32,6 @@ new_name_in name items ws = do
   w ← word_in ws
   fresh ← fresh_of (is_taken name items w.0) w.0
   Ok (fresh, w.1)
-
-abbrev pub found : {X : Type 0} → Option X → Result X Cause
-found None = Err UnknownWord
-found (Some x) = Ok x
 
 -- the place of the item that is named
 unfoldable pub declared_in : {X : Type 0} → (X → Word) → List X → List Word → Result (ℕ × List Word) Cause

@@ -4,6 +4,7 @@ use Rattle.std.specs.Option.{option_map, option_or}
 use Rattle.std.specs.Str.{bytes_eq}
 use Rattle.ink_base.specs.Lines.{Word}
 use Rattle.ink_base.specs.declared.fault.Cause.{Cause}
+use Rattle.ink_text.specs.Words.{found}
 use Rattle.task_isa.specs.declared.instr.Instr.{Instr}
 use Rattle.task_isa.specs.declared.instr.Instr.TheVariants.{Mov, Add, Sub, Mul, And, Or, Xor, Shl, Shr, Divu, Remu, Ltu, Eq, Ev, Kind, Num, Now, Ld, St, Out}
 use Rattle.task_lines.specs.declared.op.Op.{Op}
@@ -16,7 +17,6 @@ use Rattle.task_lines.specs.declared.op.ThreeOp.{ThreeOp}
 use Rattle.task_lines.specs.declared.op.ThreeOp.TheVariants as threes
 use Rattle.task_lines.specs.declared.op.JumpOp.TheVariants as jumps
 use Rattle.task_lines.specs.declared.op.DeviceOp.TheVariants as devices
-use Rattle.task_lines.specs.Named.{found}
 
 -- one register
 unfoldable pub one_op : Word → Option OneOp

@@ -4,6 +4,7 @@ use Rattle.std.specs.Str.{bytes_eq}
 use Rattle.ink_base.specs.Lines.{Word}
 use Rattle.ink_base.specs.declared.fault.Cause.{Cause}
 use Rattle.ink_base.specs.declared.fault.Cause.TheVariants.{UnknownWord}
+use Rattle.ink_base.specs.declared.limits.TheConstants as limits
 use Rattle.ink_base.specs.Gives.{◌>>=◌}
 use Rattle.ink_base.specs.Checks.{fixed_in, field_in, end_in}
 use Rattle.task_lines.specs.declared.draft.DraftTask.{DraftTask}
@@ -18,11 +19,11 @@ task_name t = t.name
 -- task NAME thread THREAD limit M: the task is open from here on
 unfoldable pub task_line : Draft → ℕ → List Word → Result Draft Cause
 task_line d line ws = do
-  free ← room 256 (length d.tasks)
+  free ← room limits.TASKS (length d.tasks)
   name ← new_name_in task_name d.tasks ws
   label ← fixed_in (codes "thread") name.1
   thread ← declared_in thread_name d.threads label
-  limit ← field_in (codes "limit") 1 4096 thread.1
+  limit ← field_in (codes "limit") 1 limits.TASK_LIMIT thread.1
   e ← end_in limit.1
   Ok (record d { current = Some (record { line = line; name = name.0; thread = record { 0 = thread.0 }; limit = limit.0; before = d.count; code = []; labels = [] }) })
 

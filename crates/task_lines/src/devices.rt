@@ -11,7 +11,7 @@ use crate::few::Few;
 use crate::forms::room;
 use crate::named::{declared, new_name};
 use ink_base::checks::{end, field, first, fixed, number};
-use ink_base::{Cause, LineError, ThreadId, Token};
+use ink_base::{Cause, LineError, ThreadId, Token, limits};
 use std::alloc::Global;
 use task_isa::{PipeDef, ThreadDef, TimerDef};
 
@@ -44,9 +44,9 @@ pub fn read_pipe(
     ensures given { Leaves result draft.new (pipe_line draft.old (words_of text.now words.now)) }
     ensures place { OnOk result (HasPlace draft.new) }
 {
-    room(8, draft.pipes.len())?;
+    room(limits::PIPES, draft.pipes.len())?;
     let (name, rest) = new_name(alloc, text, words, draft.pipes.as_slice())?;
-    let (places, rest) = number(text, rest, 1, 64)?;
+    let (places, rest) = number(text, rest, 1, u64::from(limits::PIPE_PLACES))?;
     let rest = fixed(text, rest, b"from")?;
     let (writer, rest) = declared(text, rest, draft.threads.as_slice())?;
     let writer = writer as u8;
@@ -66,8 +66,8 @@ pub fn read_pipe(
 fn due(text: &[u8], words: &[Token]) -> Result<(Option<u32>, u32), LineError>
     ensures { Gives (λ x. x) result (due_in (words_of text.now words.now)) }
 {
-    let (due, rest) = field(text, words, b"due", 0, 2147483647)?;
-    let (period, rest) = field(text, rest, b"period", 0, 2147483647)?;
+    let (due, rest) = field(text, words, b"due", 0, u64::from(limits::TICKS))?;
+    let (period, rest) = field(text, rest, b"period", 0, u64::from(limits::TICKS))?;
     end(text, rest)?;
     Ok((Some(due as u32), period as u32))
 }
@@ -105,7 +105,7 @@ pub fn read_timer(
     ensures given { Leaves result draft.new (timer_line draft.old (words_of text.now words.now)) }
     ensures place { OnOk result (HasPlace draft.new) }
 {
-    room(8, draft.timers.len())?;
+    room(limits::TIMERS, draft.timers.len())?;
     let (name, rest) = new_name(alloc, text, words, draft.timers.as_slice())?;
     let rest = fixed(text, rest, b"thread")?;
     let (thread, rest) = declared(text, rest, draft.threads.as_slice())?;

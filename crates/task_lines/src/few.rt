@@ -1,10 +1,11 @@
 //! Short lists.
 
+use ink_base::limits::TASKS;
 use sqlite_items::Items;
 use std::alloc::{AllocError, Global};
 use std::marker::Model;
 
-/// A list of at most 256 items, so that a place in it is a number of a declaration.
+/// A list of at most as many items as a program has tasks, so that a place in it is a number of a declaration.
 #[derive(Drop)]
 pub struct Few<T> {
     items: Items<T>,
@@ -12,12 +13,13 @@ pub struct Few<T> {
 
 impl<T> Model for Few<T> {
     ghost use Rattle.std.specs.Prelude.{List, ◌≤◌, length};
+    ghost use Rattle.ink_base.specs.declared.limits.TheConstants.{TASKS};
 
     ghost Value = { List T };
 
     ghost view = { λ f. f.items };
 
-    ghost invariant = { λ f. length f.items ≤ 256 };
+    ghost invariant = { λ f. length f.items ≤ TASKS };
 }
 
 impl<T> Few<T> {
@@ -35,7 +37,7 @@ impl<T> Few<T> {
     /// Its items.
     pub fn as_slice(&self) -> &[T]
         ensures items { result.now ≡ self.now }
-        ensures few { length result.now ≤ 256 }
+        ensures few { length result.now ≤ TASKS }
     {
         self.items.as_slice()
     }
@@ -60,7 +62,7 @@ impl<T: Drop> Few<T> {
 
     /// Puts an item at the end.
     pub fn push(&mut self, item: T) -> Result<(), AllocError>
-        requires { length self.old < 256 }
+        requires { length self.old < TASKS }
         ensures { OnOk result (self.new ≡ self.old ++ item ∷ []) }
     {
         self.items.push(item)

@@ -9,7 +9,7 @@ ghost use Rattle.task_lines.specs.Forms.{room, has_priority, priority_in, expire
 use crate::draft::Draft;
 use crate::named::{declared, new_name};
 use ink_base::checks::{end, field};
-use ink_base::{Cause, LineError, ThreadId, Token};
+use ink_base::{Cause, LineError, ThreadId, Token, limits};
 use std::alloc::Global;
 use task_isa::ThreadDef;
 
@@ -38,7 +38,7 @@ fn priority<'a>(
 ) -> Result<(u8, &'a [Token]), LineError>
     ensures { Gives (λ x. (x.0, words_of text.now x.1.now)) result (priority_in threads.now (words_of text.now words.now)) }
 {
-    let (n, rest) = field(text, words, b"priority", 0, 255)?;
+    let (n, rest) = field(text, words, b"priority", 0, u64::from(limits::PRIORITY))?;
     let n = n as u8;
     if has_priority(threads, n) {
         return Err(LineError::Fault(Cause::Duplicate));
@@ -53,7 +53,7 @@ fn expires(text: &[u8], words: &[Token]) -> Result<Option<u32>, LineError>
     match words {
         [] => Ok(None),
         [_, ..] => {
-            let (ticks, rest) = field(text, words, b"expires", 0, 2147483647)?;
+            let (ticks, rest) = field(text, words, b"expires", 0, u64::from(limits::TICKS))?;
             end(text, rest)?;
             Ok(Some(ticks as u32))
         }
@@ -74,12 +74,19 @@ pub fn read_thread(
     ensures given { Leaves result draft.new (thread_line draft.old line (words_of text.now words.now)) }
     ensures place { OnOk result (HasPlace draft.new) }
 {
-    room(16, draft.threads.len())?;
+    room(limits::THREADS, draft.threads.len())?;
     let (name, rest) = new_name(alloc, text, words, draft.threads.as_slice())?;
     let (priority, rest) = priority(text, rest, draft.threads.as_slice())?;
-    let (queue, rest) = field(text, rest, b"queue", 2, 32)?;
-    let (state, rest) = field(text, rest, b"state", 0, 256)?;
-    let (log, rest) = field(text, rest, b"log", 1, 4096)?;
+    let fewest = u64::from(limits::FEWEST_QUEUE_PLACES);
+    let (queue, rest) = field(
+        text,
+        rest,
+        b"queue",
+        fewest,
+        u64::from(limits::QUEUE_PLACES),
+    )?;
+    let (state, rest) = field(text, rest, b"state", 0, u64::from(limits::STATE_NUMBERS))?;
+    let (log, rest) = field(text, rest, b"log", 1, u64::from(limits::LOG_PLACES))?;
     let expires = expires(text, rest)?;
     draft.threads.push(ThreadDef {
         name,
@@ -100,7 +107,7 @@ pub fn read_source(draft: &mut Draft, text: &[u8], words: &[Token]) -> Result<()
     ensures given { Leaves result draft.new (source_line draft.old (words_of text.now words.now)) }
     ensures place { OnOk result (HasPlace draft.new) }
 {
-    room(16, draft.sources.len())?;
+    room(limits::SOURCES, draft.sources.len())?;
     let (thread, rest) = declared(text, words, draft.threads.as_slice())?;
     end(text, rest)?;
     draft.sources.push(ThreadId(thread as u8))?;

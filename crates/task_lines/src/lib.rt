@@ -1,4 +1,5 @@
-//! The lines of the section `[program]`: what a line outside of tasks declares, and which instruction a line of a task is.
+//! The lines of the section `[program]`: what a line outside of tasks declares, which instruction a line of a task is, and what each adds to a
+//! draft.
 #![tactic(auto)]
 
 mod devices;
@@ -10,12 +11,10 @@ mod named;
 mod op;
 mod operands;
 mod outside;
+mod task;
 
 pub use draft::{Draft, DraftInstr, DraftLine, DraftTask};
 pub use few::Few;
-pub use forms::room;
 pub use labels::Labels;
-pub use named::{Named, fresh, place_of};
-pub use op::{DeviceOp, JumpOp, OneOp, Op, ThreeOp, TwoOp, op_of};
-pub use operands::read_operands;
-pub use outside::read_outside;
+pub use named::{Named, place_of};
+pub use op::{DeviceOp, JumpOp, OneOp, Op, ThreeOp, TwoOp};

@@ -69,7 +69,7 @@ fn constant<'a>(text: &'a [u8], words: &'a [Token]) -> Result<(Reg, u32), LineEr
     ensures { Gives (λ x. x) result (constant_in (words_of text.now words.now)) }
 {
     let (a, rest) = register(text, words)?;
-    let (i, rest) = number(text, rest, 0, 4294967295)?;
+    let (i, rest) = number(text, rest, 0, u64::from(u32::MAX))?;
     end(text, rest)?;
     Ok((Reg::new(a), i as u32))
 }

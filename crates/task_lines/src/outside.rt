@@ -12,7 +12,7 @@ use crate::forms::{read_source, read_thread, room};
 use crate::labels::Labels;
 use crate::named::{declared, new_name};
 use ink_base::checks::{end, field, fixed};
-use ink_base::{Cause, LineError, ThreadId, Token};
+use ink_base::{Cause, LineError, ThreadId, Token, limits};
 use sqlite_items::Items;
 use std::alloc::Global;
 
@@ -28,11 +28,11 @@ fn read_task(
     ensures given { Leaves result draft.new (task_line draft.old line (words_of text.now words.now)) }
     ensures place { OnOk result (HasPlace draft.new) }
 {
-    room(256, draft.tasks.len())?;
+    room(limits::TASKS, draft.tasks.len())?;
     let (name, rest) = new_name(alloc, text, words, draft.tasks.as_slice())?;
     let rest = fixed(text, rest, b"thread")?;
     let (thread, rest) = declared(text, rest, draft.threads.as_slice())?;
-    let (limit, rest) = field(text, rest, b"limit", 1, 4096)?;
+    let (limit, rest) = field(text, rest, b"limit", 1, u64::from(limits::TASK_LIMIT))?;
     end(text, rest)?;
     draft.current = Some(DraftTask {
         line,

@@ -1,16 +1,23 @@
-//! The lines of a task.
+//! The lines of the section: which stand inside of a task, and what each adds to the draft.
 
 ghost use Rattle.std.specs.Prelude.{◌≡◌, ◌<◌, length, IsNone, OnOk};
 ghost use Rattle.std.specs.Option.{option_map};
 ghost use Rattle.ink_base.specs.Checks.{words_of};
 ghost use Rattle.ink_base.specs.Gives.{Leaves};
 ghost use Rattle.task_lines.specs.Place.{HasPlace};
-ghost use Rattle.task_asm.specs.Task.{label_of, label_line, instr_line, end_line, inside_line, line_in};
+ghost use Rattle.task_lines.specs.Task.{label_of, label_line, instr_line, end_line, inside_line, line_in};
 
+use crate::draft::{Draft, DraftLine, DraftTask};
+use crate::forms::room;
+use crate::named::fresh;
+use crate::op::op_of;
+use crate::operands::read_operands;
+use crate::outside::read_outside;
 use ink_base::checks::{end, word};
+use ink_base::limits::{INSTRUCTIONS, TASKS};
 use ink_base::{LineError, Token};
+use ink_text::Section;
 use std::alloc::Global;
-use task_lines::{Draft, DraftLine, DraftTask, fresh, op_of, read_operands, read_outside, room};
 
 fn label_of(word: &[u8]) -> Option<&[u8]>
     ensures { option_map (λ x. x.now) result ≡ label_of word.now }
@@ -31,7 +38,7 @@ fn read_label(
     name: &[u8],
     words: &[Token],
 ) -> Result<(), LineError>
-    requires { length draft.old.tasks < 256 }
+    requires { length draft.old.tasks < TASKS }
     ensures given { Leaves result draft.new (label_line draft.old task name.now (words_of text.now words.now)) }
     ensures place { OnOk result (HasPlace draft.new) }
 {
@@ -53,12 +60,12 @@ fn read_instr(
     word: &[u8],
     words: &[Token],
 ) -> Result<(), LineError>
-    requires { length draft.old.tasks < 256 }
+    requires { length draft.old.tasks < TASKS }
     ensures given { Leaves result draft.new (instr_line draft.old task line word.now (words_of text.now words.now)) }
     ensures place { OnOk result (HasPlace draft.new) }
 {
     let op = op_of(word)?;
-    room(4096, draft.count as usize)?;
+    room(INSTRUCTIONS, draft.count as usize)?;
     let instr = read_operands(alloc, draft, task.thread, op, text, words)?;
     task.code.push(DraftLine { line, instr })?;
     draft.current = Some(task);
@@ -74,7 +81,7 @@ fn read_end(
     words: &[Token],
 ) -> Result<(), LineError>
     requires closed { IsNone draft.old.current }
-    requires place { length draft.old.tasks < 256 }
+    requires place { length draft.old.tasks < TASKS }
     ensures given { Leaves result draft.new (end_line draft.old task (words_of text.now words.now)) }
     ensures place { OnOk result (HasPlace draft.new) }
 {
@@ -94,7 +101,7 @@ fn read_inside(
     words: &[Token],
 ) -> Result<(), LineError>
     requires closed { IsNone draft.old.current }
-    requires place { length draft.old.tasks < 256 }
+    requires place { length draft.old.tasks < TASKS }
     ensures given { Leaves result draft.new (inside_line draft.old task line word.now (words_of text.now words.now)) }
     ensures place { OnOk result (HasPlace draft.new) }
 {
@@ -107,26 +114,27 @@ fn read_inside(
     }
 }
 
-/// A line of the section that is no header. Refused by its first fault from the left; nothing is then said of the draft.
-#[tactic(auto, unfolding(crate::specs::Task::line_in))]
-pub fn read_line(
-    alloc: Global,
-    draft: &mut Draft,
-    text: &[u8],
-    line: u32,
-    words: &[Token],
-) -> Result<(), LineError>
-    requires { HasPlace draft.old }
-    ensures given { Leaves result draft.new (line_in draft.old line (words_of text.now words.now)) }
-    ensures place { OnOk result (HasPlace draft.new) }
-{
-    match words {
-        [] => Ok(()),
-        [first, rest @ ..] => {
-            let first = word(text, first);
-            match draft.current.take() {
-                None => read_outside(alloc, draft, text, line, first, rest),
-                Some(task) => read_inside(alloc, draft, task, text, line, first, rest),
+impl Section for Draft {
+    ghost line = { line_in };
+
+    ghost keeps = { HasPlace };
+
+    #[tactic(auto, unfolding(crate::specs::Task::line_in))]
+    fn read_line(
+        &mut self,
+        alloc: Global,
+        text: &[u8],
+        number: u32,
+        words: &[Token],
+    ) -> Result<(), LineError> {
+        match words {
+            [] => Ok(()),
+            [first, rest @ ..] => {
+                let first = word(text, first);
+                match self.current.take() {
+                    None => read_outside(alloc, self, text, number, first, rest),
+                    Some(task) => read_inside(alloc, self, task, text, number, first, rest),
+                }
             }
         }
     }

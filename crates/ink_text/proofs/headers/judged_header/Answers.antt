@@ -1,5 +1,5 @@
 use Rattle.ink_base.proofs.Failing.{Fails-at}
-use Rattle.task_asm.proofs.section.judged_first_header.Goals as goal
+use Rattle.ink_text.proofs.headers.judged_header.Goals as goal
 
 pub returns-in-Err : goal.returns-in-Err
 returns-in-Err c = rw c.at.ensures (Fails-at c.args.line c.in-Err.e _ c.in-Err.ensures)

@@ -4,6 +4,7 @@ use Rattle.std.specs.List.{slice_index}
 use Rattle.std.specs.Str.{bytes_eq}
 use Rattle.ink_base.specs.Lines.{Word}
 use Rattle.ink_base.specs.declared.fault.Cause.{Cause}
+use Rattle.ink_base.specs.declared.limits.TheConstants as limits
 use Rattle.ink_base.specs.Gives.{◌>>=◌}
 use Rattle.ink_base.specs.Checks.{end_in}
 use Rattle.task_lines.specs.declared.draft.DraftTask.{DraftTask}
@@ -30,7 +31,7 @@ label_line d task name ws = do
 unfoldable pub instr_line : Draft → DraftTask → ℕ → Word → List Word → Result Draft Cause
 instr_line d task line w ws = do
   op ← op_of w
-  free ← room 4096 d.count
+  free ← room limits.INSTRUCTIONS d.count
   instr ← instr_in d task.thread op ws
   Ok (record d { current = Some (record task { code = task.code ++ record { line = line; instr = instr } ∷ [] }); count = d.count + 1 })
 
