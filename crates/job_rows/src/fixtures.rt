@@ -10,8 +10,8 @@ use std::alloc::Global;
 const PROGRAM: &[u8] =
     b"[program]\nthread a priority 1 queue 2 state 1 log 8\nsource a\ntask sum thread a limit 100\nli r1 0\nld r2 r1\nev r3\nadd r2 r2 r3\nst r2 r1\nout r2\ndone\nend\n[sensors]\n";
 
-// The text of a job with these lines for the readings, from line 14 on, and for the charges.
-fn job_text(alloc: Global, readings: &[u8], charges: &[u8]) -> Result<Vec<u8>, NoMemory> {
+/// The text of a job with these lines for the readings, from line 14 on, and for the charges.
+pub fn job_text(alloc: Global, readings: &[u8], charges: &[u8]) -> Result<Vec<u8>, NoMemory> {
     let mut text = Vec::new(alloc);
     text.extend_from_slice(PROGRAM)?;
     text.extend_from_slice(readings)?;

@@ -11,3 +11,5 @@ mod jobs;
 mod limits;
 #[cfg(test)]
 mod soaks;
+#[cfg(test)]
+mod tails;

@@ -42,7 +42,7 @@ pub first_same : {S : Type 0} (s t : S) (xs ys : List Line) → ◌≡◌ {A = R
 first_same {S} s t xs ys h = let pairs : ◌≡◌ {A = S × List Line} (s, xs) (t, ys) = cc in ap (λ (x : S × List Line). x.0) pairs
 
 -- what each line keeps, all lines keep
-pub lines_keep : {S : Type 0} (P : S → Type 0) (f : S → List Word → Result S Cause) → ((s : S) (ws : List Word) (t : S) → P s → f s ws ≡ Ok t → P t)
+pub lines_keep : {S : Type 0} (P : S → Type 0) (f : S → ℕ → List Word → Result S Cause) → ((s : S) (number : ℕ) (ws : List Word) (t : S) → P s → f s number ws ≡ Ok t → P t)
     → (ls : List Line) (s t : S) (rest : List Line) → P s → lines_in f s ls ≡ Ok (t, rest) → P t
 unfolding lines_in
 lines_keep P f step [] s t rest p h = subst P (first_same s t [] rest h) p
@@ -52,6 +52,6 @@ lines_keep P f step (line ∷ ls) s t rest p h =
           subst P (first_same s t (line ∷ ls) rest (rw header at h)) p
       | inr other ↦
           let k = rw other at h in
-          let first = bound_line (at_line line.number (f s line.words)) (λ next. lines_in f next ls) (t, rest) k in
-          lines_keep P f step ls first.0 t rest (step s line.words first.0 p (in_line line.number (f s line.words) first.0 first.1)) first.2
+          let first = bound_line (at_line line.number (f s line.number line.words)) (λ next. lines_in f next ls) (t, rest) k in
+          lines_keep P f step ls first.0 t rest (step s line.number line.words first.0 p (in_line line.number (f s line.number line.words) first.0 first.1)) first.2
     ]

@@ -67,9 +67,9 @@ set_keeps sources readings i values next are right same =
     } in
     subst (AreSensors sources) same kept
 
-line_keeps : (sources : ℕ) (readings : List (List ℕ)) (ws : List Word) (next : List (List ℕ)) → AreSensors sources readings → sensor_line readings ws ≡ Ok next → AreSensors sources next
+line_keeps : (sources : ℕ) (readings : List (List ℕ)) (number : ℕ) (ws : List Word) (next : List (List ℕ)) → AreSensors sources readings → sensor_line readings ws ≡ Ok next → AreSensors sources next
 unfolding sensor_line
-line_keeps sources readings ws next are h =
+line_keeps sources readings number ws next are h =
     let store : ℕ → List ℕ → Result (List (List ℕ)) Cause = λ i values. Ok (set readings i values) in
     let values : List Word → ℕ → Result (List (List ℕ)) Cause = λ rest i. words_in value_in (get_or readings i []) rest >>= store i in
     let line : Word × List Word → Result (List (List ℕ)) Cause = λ w. known (source_of (length readings) w.0) >>= values w.1 in
@@ -100,8 +100,8 @@ unfolding sensors_in
 sensors_keep count sources [] readings rest h = absurd (cc)
 sensors_keep count sources (header ∷ ls) readings rest h =
     let close : List (List ℕ) × List Line → Result (List (List ℕ) × List Line) JobFault = λ x. sensors_end count x.0 x.1 in
-    let all : Unit {0} → Result (List (List ℕ) × List Line) JobFault = λ e. lines_in sensor_line (replicate sources []) ls >> close in
+    let all : Unit {0} → Result (List (List ℕ) × List Line) JobFault = λ e. lines_in (λ readings number. sensor_line readings) (replicate sources []) ls >> close in
     let a = bound_line (at_line header.number (header_end header.words)) all (readings, rest) h in
-    let b = bound_line (lines_in sensor_line (replicate sources []) ls) close (readings, rest) a.2 in
-    let kept = lines_keep (AreSensors sources) sensor_line (line_keeps sources) ls (replicate sources []) b.0.0 b.0.1 (start sources) b.1 in
+    let b = bound_line (lines_in (λ readings number. sensor_line readings) (replicate sources []) ls) close (readings, rest) a.2 in
+    let kept = lines_keep (AreSensors sources) (λ readings number. sensor_line readings) (line_keeps sources) ls (replicate sources []) b.0.0 b.0.1 (start sources) b.1 in
     subst (AreSensors sources) (end_keeps count b.0.0 b.0.1 readings rest b.2) kept

@@ -1,6 +1,6 @@
 -- The charges of a section are within the limits, and their actors are on the board.
-use Rattle.std.proofs.Common.{◌≡◌, ℕ, ◌+◌, ◌<◌, ◌≤◌, List, [], ◌∷◌, ◌++◌, length, take, Option, Some, None, Result, Ok, Err, refl, subst, inl, inr, arith, length-append}
-use Rattle.std.specs.Prelude.{if◌then◌else◌, nat_lt, nat_le, ◌&&◌, ◌==◌, codes}
+use Rattle.std.proofs.Common.{◌≡◌, ℕ, ◌+◌, ◌<◌, ◌≤◌, List, [], ◌∷◌, ◌++◌, length, take, Option, Some, None, Result, Ok, Err, refl, ap, subst, inl, inr, arith, length-append}
+use Rattle.std.specs.Prelude.{if◌then◌else◌, nat_lt, nat_le, ◌&&◌, not, ◌==◌, codes}
 use Rattle.std.specs.List.{All}
 use Rattle.std.specs.Option.{option_map}
 use Rattle.std.specs.Str.{bytes_eq}
@@ -12,19 +12,21 @@ use Rattle.ink_base.specs.Lines.{Word, Line}
 use Rattle.ink_base.specs.declared.actor.Actor.{Actor}
 use Rattle.ink_base.specs.declared.actor.Actor.TheVariants.{Kernel, Source, Clock}
 use Rattle.ink_base.specs.declared.fault.Cause.{Cause}
-use Rattle.ink_base.specs.declared.fault.Cause.TheVariants.{OverLimit}
+use Rattle.ink_base.specs.declared.fault.Cause.TheVariants.{OverLimit, Missing, BadSection}
 use Rattle.ink_base.specs.declared.fault.JobFault.{JobFault}
 use Rattle.ink_base.specs.Gives.{◌>>=◌, ◌>>◌, at_line}
-use Rattle.ink_base.specs.Checks.{number_of, word_in, fixed_in, number_in}
+use Rattle.ink_base.specs.Checks.{number_of, word_in, fixed_in, number_in, end_in}
 use Rattle.job_parts.specs.declared.item.Item.{Item}
 use Rattle.job_parts.specs.declared.charge.Charge.{Charge}
 use Rattle.power_trace.specs.declared.charges.Charges.{Charges}
 use Rattle.power_trace.specs.declared.charges.Turns.{Turns}
+use Rattle.power_trace.specs.declared.tails.Tails.{Tails}
+use Rattle.power_trace.specs.Tails.{allows, tail_header}
 use Rattle.power_trace.specs.Walks.{words_in, lines_in, header_end}
 use Rattle.power_trace.specs.Sensors.{source_of}
-use Rattle.power_trace.specs.Power.{actor_of, known_actor, cut, count_at, item_of, item_in, room_in, charge_line, power_end, power_in}
+use Rattle.power_trace.specs.Power.{actor_of, known_actor, cut, count_at, item_of, item_in, room_in, charge_line, power_end, no_charges, power_in}
 use Rattle.job_parts.specs.Job.{IsOnBoard, IsRightCharge, item_turns, charge_turns, AreCharges}
-use Rattle.power_trace.proofs.Inverted.{bound, bound_line, tested, tested_not, words_keep, lines_keep}
+use Rattle.power_trace.proofs.Inverted.{bound, bound_line, in_line, tested, tested_not, words_keep, lines_keep}
 use Rattle.power_trace.proofs.Kept.{source_below, known_is}
 
 mapped : (sources : ℕ) (o : Option ℕ) (actor : Actor) → ((i : ℕ) → o ≡ Some i → i < sources) → option_map (λ i. Source (record { 0 = i })) o ≡ Some actor → IsOnBoard sources actor
@@ -86,33 +88,36 @@ number_le greatest ws x h =
 -- the charges so far
 record AreCharged (board : ℕ) (c : Charges) : Type 0 where
   pub sources : c.sources ≡ board
+  pub lines : length c.lines ≡ length c.list
   pub count : length c.list ≤ 4096
   pub right : All (IsRightCharge board) c.list
   pub sum : charge_turns c.list ≡ c.turns
   pub within : c.turns ≤ 4194304
 
--- one more charge, and the turns of all
-abbrev with_charge : Charges → ℕ → Turns → Charges
-with_charge c off t = record c { list = c.list ++ record { off = off; items = t.items } ∷ []; turns = t.turns }
+-- one more charge at a line, and the turns of all
+abbrev with_charge : Charges → (number off : ℕ) → Turns → Charges
+with_charge c number off t = record c { list = c.list ++ record { off = off; items = t.items } ∷ []; lines = c.lines ++ number ∷ []; turns = t.turns }
 
-charge_more : (sources off : ℕ) (c : Charges) (t : Turns) (next : Charges) → AreCharged sources c → length c.list < 4096 → off ≤ 2147483647 → AreTurns sources c.turns t → with_charge c off t ≡ next
+charge_more : (sources number off : ℕ) (c : Charges) (t : Turns) (next : Charges) → AreCharged sources c → length c.list < 4096 → off ≤ 2147483647 → AreTurns sources c.turns t → with_charge c number off t ≡ next
     → AreCharged sources next
-charge_more sources off c t next are room within turns same =
+charge_more sources number off c t next are room within turns same =
     let charge : Charge = record { off = off; items = t.items } in
-    let kept : AreCharged sources (with_charge c off t) = record {
+    let more = length-append c.list (charge ∷ []) in
+    let kept : AreCharged sources (with_charge c number off t) = record {
       sources = are.sources;
-      count = omega (arith, length-append c.list (charge ∷ []));
+      lines = omega (arith, are.lines, more, length-append c.lines (number ∷ []));
+      count = omega (arith, more);
       right = All-push (IsRightCharge sources) c.list charge are.right (record { off = omega arith; actors = turns.actors });
       sum = omega (arith, are.sum, turns.sum, sum_by-append (λ (x : Charge). item_turns x.items) c.list (charge ∷ []));
       within = turns.within;
     } in
     subst (AreCharged sources) same kept
 
-charge_keeps : (sources : ℕ) (c : Charges) (ws : List Word) (next : Charges) → AreCharged sources c → charge_line c ws ≡ Ok next → AreCharged sources next
+charge_keeps : (sources : ℕ) (c : Charges) (number : ℕ) (ws : List Word) (next : Charges) → AreCharged sources c → charge_line c number ws ≡ Ok next → AreCharged sources next
 unfolding charge_line
-charge_keeps sources c ws next are h =
+charge_keeps sources c number ws next are h =
     let begun : Turns = record { items = []; turns = c.turns } in
-    let made : ℕ → Turns → Result Charges Cause = λ off t. Ok (with_charge c off t) in
+    let made : ℕ → Turns → Result Charges Cause = λ off t. Ok (with_charge c number off t) in
     let listed : ℕ × List Word → Result Charges Cause = λ off. words_in (item_in c.sources) begun off.1 >>= made off.0 in
     let timed : List Word → Unit {0} → Result Charges Cause = λ rest room. number_in 0 2147483647 rest >>= listed in
     let counted : List Word → Result Charges Cause = λ rest. room_in c >>= timed rest in
@@ -124,32 +129,59 @@ charge_keeps sources c ws next are h =
     let none : AreTurns c.sources c.turns begun = record { sum = omega arith; actors = λ k d lt. absurd (omega arith); within = are.within } in
     let kept = words_keep (AreTurns c.sources c.turns) (item_in c.sources) (item_keeps c.sources c.turns) off.0.1 begun turns.0 none turns.1 in
     let board = subst (λ (n : ℕ). AreTurns n c.turns turns.0) are.sources kept in
-    let same : with_charge c off.0.0 turns.0 ≡ next = cc in
-    charge_more sources off.0.0 c turns.0 next are (ltb-true _ _ roomy.0) (number_le 2147483647 first.0 off.0 off.1) board same
+    let same : with_charge c number off.0.0 turns.0 ≡ next = cc in
+    charge_more sources number off.0.0 c turns.0 next are (ltb-true _ _ roomy.0) (number_le 2147483647 first.0 off.0 off.1) board same
 
-end_keeps : (count sources : ℕ) (c : Charges) (ls : List Line) (list : List Charge) → AreCharged sources c → power_end count c ls ≡ Ok list → AreCharges sources list
-unfolding power_end
-end_keeps count sources c [] list are h =
-    let some = tested_not (length c.list == 0) c.list list _ h in
+-- charges within the limits, each with a line
+pub record AreListed (sources : ℕ) (c : Charges) : Type 0 where
+  pub charges : AreCharges sources c.list
+  pub lines : length c.lines ≡ length c.list
+
+listed : (sources : ℕ) (c next : Charges) → AreCharged sources c → 0 < length c.list → c ≡ next → AreListed sources next
+listed sources c next are some same =
     let right : AreCharges sources c.list = record {
-      least = grind (arith, nat_tests, some.0);
+      least = omega (arith, some);
       count = are.count;
       right = are.right;
       turns = omega (arith, are.sum, are.within);
     } in
-    subst (AreCharges sources) some.1 right
-end_keeps count sources c (line ∷ ls) list are h = absurd (cc)
+    subst (AreListed sources) same (record { charges = right; lines = are.lines })
 
--- the section's charges are within the limits
-pub power_keep : (count sources : ℕ) (ls : List Line) (list : List Charge) → power_in count sources ls ≡ Ok list → AreCharges sources list
+tail_keeps : (tails : Tails) (charges : ℕ) (ws : List Word) (x : Unit {0}) → tail_header tails charges ws ≡ Ok x → 0 < charges
+unfolding tail_header
+tail_keeps tails charges [] x h = absurd (cc)
+tail_keeps tails charges (w ∷ ws) x h =
+    elim (cases_Bool (not (allows tails w))) [
+      | inl other ↦ let k = rw other at h in absurd (cc)
+      | inr allowed ↦
+          let k = rw allowed at h in
+          elim (cases_Bool (charges == 0)) [
+            | inl none ↦ let l = rw none at k in absurd (cc)
+            | inr some ↦ grind (arith, nat_tests, some)
+          ]
+    ]
+
+end_keeps : (count sources : ℕ) (tails : Tails) (c : Charges) (ls : List Line) (x : Charges × List Line) → AreCharged sources c → power_end count tails c ls ≡ Ok x → AreListed sources x.0
+unfolding power_end
+end_keeps count sources tails c [] x are h =
+    let some = tested_not (length c.list == 0) (c, []) x _ h in
+    listed sources c x.0 are (grind (arith, nat_tests, some.0)) (ap (λ (y : Charges × List Line). y.0) some.1)
+end_keeps count sources tails c (line ∷ ls) x are h =
+    let ended : Unit {0} → Result (Charges × List Line) JobFault = λ e. Ok (c, line ∷ ls) in
+    let a = bound_line (at_line line.number (tail_header tails (length c.list) line.words)) ended x h in
+    let some = tail_keeps tails (length c.list) line.words a.0 (in_line line.number _ a.0 a.1) in
+    let same : (c, line ∷ ls) ≡ x = cc in
+    listed sources c x.0 are some (ap (λ (y : Charges × List Line). y.0) same)
+
+-- the section's charges are within the limits, and each has its line
+pub power_keep : (count : ℕ) (tails : Tails) (sources : ℕ) (ls : List Line) (x : Charges × List Line) → power_in count tails sources ls ≡ Ok x → AreListed sources x.0
 unfolding power_in
-power_keep count sources [] list h = absurd (cc)
-power_keep count sources (header ∷ ls) list h =
-    let begun : Charges = record { sources = sources; list = []; turns = 0 } in
-    let close : Charges × List Line → Result (List Charge) JobFault = λ x. power_end count x.0 x.1 in
-    let all : Unit {0} → Result (List Charge) JobFault = λ e. lines_in charge_line begun ls >> close in
-    let a = bound_line (at_line header.number (header_end header.words)) all list h in
-    let b = bound_line (lines_in charge_line begun ls) close list a.2 in
-    let none : AreCharged sources begun = record { sources = refl; count = omega arith; right = λ k d lt. absurd (omega arith); sum = refl; within = omega arith } in
-    let kept = lines_keep (AreCharged sources) charge_line (charge_keeps sources) ls begun b.0.0 b.0.1 none b.1 in
-    end_keeps count sources b.0.0 b.0.1 list kept b.2
+power_keep count tails sources [] x h = absurd (cc)
+power_keep count tails sources (header ∷ ls) x h =
+    let close : Charges × List Line → Result (Charges × List Line) JobFault = λ y. power_end count tails y.0 y.1 in
+    let all : Unit {0} → Result (Charges × List Line) JobFault = λ e. lines_in charge_line (no_charges sources) ls >> close in
+    let a = bound_line (at_line header.number (header_end header.words)) all x h in
+    let b = bound_line (lines_in charge_line (no_charges sources) ls) close x a.2 in
+    let none : AreCharged sources (no_charges sources) = record { sources = refl; lines = refl; count = omega arith; right = λ k d lt. absurd (omega arith); sum = refl; within = omega arith } in
+    let kept = lines_keep (AreCharged sources) charge_line (charge_keeps sources) ls (no_charges sources) b.0.0 b.0.1 none b.1 in
+    end_keeps count sources tails b.0.0 b.0.1 x kept b.2

@@ -43,27 +43,27 @@ pub words_end : {S : Type 0} (f : S → Word → Result S Cause) (s : S) (text :
 unfolding words_in
 words_end f s text tokens i total le so = sym so ∙ ap (λ ts. words_in f s (words_of text ts)) (drop_all i tokens le)
 
-at_header : {S : Type 0} (f : S → List Word → Result S Cause) (s : S) (line : Line) (rest : List Line) → is_header line.words ≡ true → lines_in f s (line ∷ rest) ≡ Ok (s, line ∷ rest)
+at_header : {S : Type 0} (f : S → ℕ → List Word → Result S Cause) (s : S) (line : Line) (rest : List Line) → is_header line.words ≡ true → lines_in f s (line ∷ rest) ≡ Ok (s, line ∷ rest)
 unfolding lines_in
 at_header f s line rest h = rw h refl
 
-at_other : {S : Type 0} (f : S → List Word → Result S Cause) (s : S) (line : Line) (rest : List Line) → is_header line.words ≡ false
-    → lines_in f s (line ∷ rest) ≡ (at_line line.number (f s line.words) >> (λ next. lines_in f next rest))
+at_other : {S : Type 0} (f : S → ℕ → List Word → Result S Cause) (s : S) (line : Line) (rest : List Line) → is_header line.words ≡ false
+    → lines_in f s (line ∷ rest) ≡ (at_line line.number (f s line.number line.words) >> (λ next. lines_in f next rest))
 unfolding lines_in
 at_other f s line rest h = rw h refl
 
-pub lines_end : {S : Type 0} (f : S → List Word → Result S Cause) (s : S) → lines_in f s [] ≡ Ok (s, [])
+pub lines_end : {S : Type 0} (f : S → ℕ → List Word → Result S Cause) (s : S) → lines_in f s [] ≡ Ok (s, [])
 unfolding lines_in
 lines_end f s = refl
 
-pub header_ends : {S : Type 0} (f : S → List Word → Result S Cause) (s : S) (line : Line) (rest : List Line) (total : Result (S × List Line) JobFault) → is_header line.words ≡ true
+pub header_ends : {S : Type 0} (f : S → ℕ → List Word → Result S Cause) (s : S) (line : Line) (rest : List Line) (total : Result (S × List Line) JobFault) → is_header line.words ≡ true
     → lines_in f s (line ∷ rest) ≡ total → total ≡ Ok (s, line ∷ rest)
 header_ends f s line rest total h so = sym so ∙ at_header f s line rest h
 
-pub line_fails : {S : Type 0} (f : S → List Word → Result S Cause) (s : S) (line : Line) (rest : List Line) (total : Result (S × List Line) JobFault) (e : JobAnswer) → is_header line.words ≡ false
-    → lines_in f s (line ∷ rest) ≡ total → Answers e (at_line line.number (f s line.words)) → Answers e total
-line_fails f s line rest total e h so err = Answers-step e (at_line line.number (f s line.words)) (λ next. lines_in f next rest) total err (sym (at_other f s line rest h) ∙ so)
+pub line_fails : {S : Type 0} (f : S → ℕ → List Word → Result S Cause) (s : S) (line : Line) (rest : List Line) (total : Result (S × List Line) JobFault) (e : JobAnswer) → is_header line.words ≡ false
+    → lines_in f s (line ∷ rest) ≡ total → Answers e (at_line line.number (f s line.number line.words)) → Answers e total
+line_fails f s line rest total e h so err = Answers-step e (at_line line.number (f s line.number line.words)) (λ next. lines_in f next rest) total err (sym (at_other f s line rest h) ∙ so)
 
-pub line_more : {S : Type 0} (f : S → List Word → Result S Cause) (s : S) (line : Line) (rest : List Line) (total : Result (S × List Line) JobFault) (next : S) → is_header line.words ≡ false
-    → lines_in f s (line ∷ rest) ≡ total → at_line line.number (f s line.words) ≡ Ok next → lines_in f next rest ≡ total
+pub line_more : {S : Type 0} (f : S → ℕ → List Word → Result S Cause) (s : S) (line : Line) (rest : List Line) (total : Result (S × List Line) JobFault) (next : S) → is_header line.words ≡ false
+    → lines_in f s (line ∷ rest) ≡ total → at_line line.number (f s line.number line.words) ≡ Ok next → lines_in f next rest ≡ total
 line_more {S} f s line rest total next h so ok = sym (at_other f s line rest h ∙ ap (λ (r : Result S JobFault). r >> (λ x. lines_in f x rest)) ok) ∙ so

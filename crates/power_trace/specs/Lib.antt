@@ -1,5 +1,6 @@
 pub mod Walks
 pub mod Sensors
+pub mod Tails
 pub mod Power
 pub mod Parse
 pub mod Soak

@@ -1,6 +1,6 @@
 -- The job that a text gives, or its first fault.
 use Rattle.std.specs.Prelude.{ℕ, List, length, Option, Some, None, Result, Ok, Err}
-use Rattle.ink_base.specs.Lines.{lines}
+use Rattle.ink_base.specs.Lines.{Line, lines}
 use Rattle.ink_base.specs.Tokens.{bytes_in}
 use Rattle.ink_base.specs.Gives.{◌>>◌}
 use Rattle.ink_base.specs.declared.fault.JobFault.{JobFault}
@@ -10,8 +10,12 @@ use Rattle.prog_check.specs.Faults.{first_fault}
 use Rattle.task_asm.specs.Section.{program_at}
 use Rattle.power_trace.specs.Sensors.{sensors_in}
 use Rattle.power_trace.specs.Power.{power_in}
+use Rattle.power_trace.specs.Tails.{no_tails}
+use Rattle.power_trace.specs.declared.tails.Tails.{Tails}
+use Rattle.power_trace.specs.declared.parse.Parts.{Parts}
 use Rattle.job_parts.specs.Job.{JobParts}
 
+-- the program, unless this is its fault
 abbrev pub unless_fault : Program → Option JobFault → Result Program JobFault
 unless_fault program None = Ok program
 unless_fault program (Some fault) = Err fault
@@ -20,16 +24,17 @@ unless_fault program (Some fault) = Err fault
 abbrev pub checked : Program → Lines → Result Program JobFault
 checked program lines = unless_fault program (first_fault program lines)
 
--- the phases in their order: bytes, the program and its check, the readings, the charges. The lines of the program's parts come with the job.
-unfoldable pub listed_at : List ℕ → Result (JobParts × Lines) JobFault
-listed_at text =
+-- the phases in their order: bytes, the program and its check, the readings, the charges. So a text gives a job and the lines of its charges, and the
+-- lines from the header on that ends the last section.
+unfoldable pub parts_at : Tails → List ℕ → Result (Parts × List Line) JobFault
+parts_at tails text =
     bytes_in text >> (λ good.
     program_at text >> (λ p.
     checked p.0 p.1 >> (λ program.
     sensors_in (length (lines text)) (length program.sources) p.2 >> (λ s.
-    power_in (length (lines text)) (length program.sources) s.1 >> (λ charges.
-    Ok (record { program = program; readings = s.0; charges = charges }, p.1))))))
+    power_in (length (lines text)) tails (length program.sources) s.1 >> (λ x.
+    Ok (record { job = record { program = program; readings = s.0; charges = x.0.list }; charge_lines = x.0.lines }, x.1))))))
 
--- the job of a text
+-- the job of a text behind which nothing stands
 unfoldable pub job_at : List ℕ → Result JobParts JobFault
-job_at text = listed_at text >> (λ x. Ok x.0)
+job_at text = parts_at no_tails text >> (λ x. Ok x.0.job)

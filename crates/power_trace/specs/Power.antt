@@ -7,7 +7,7 @@ use Rattle.ink_base.specs.Lines.{Word, Line}
 use Rattle.ink_base.specs.declared.actor.Actor.{Actor}
 use Rattle.ink_base.specs.declared.actor.Actor.TheVariants.{Kernel, Source, Clock}
 use Rattle.ink_base.specs.declared.fault.Cause.{Cause}
-use Rattle.ink_base.specs.declared.fault.Cause.TheVariants.{OverLimit, Missing, BadSection}
+use Rattle.ink_base.specs.declared.fault.Cause.TheVariants.{OverLimit, Missing}
 use Rattle.ink_base.specs.declared.fault.JobFault.{JobFault}
 use Rattle.ink_base.specs.Gives.{◌>>=◌, ◌>>◌, at_line}
 use Rattle.ink_base.specs.Checks.{fixed_in, number_in}
@@ -15,6 +15,8 @@ use Rattle.job_parts.specs.declared.item.Item.{Item}
 use Rattle.job_parts.specs.declared.charge.Charge.{Charge}
 use Rattle.power_trace.specs.declared.charges.Charges.{Charges}
 use Rattle.power_trace.specs.declared.charges.Turns.{Turns}
+use Rattle.power_trace.specs.declared.tails.Tails.{Tails}
+use Rattle.power_trace.specs.Tails.{no_tails, tail_header}
 use Rattle.power_trace.specs.Walks.{words_in, lines_in, header_end, up_to}
 use Rattle.power_trace.specs.Sensors.{source_of, known}
 
@@ -51,23 +53,32 @@ item_in sources t w = do
 abbrev pub room_in : Charges → Result (Unit {0}) Cause
 room_in charges = if nat_lt (length charges.list) 4096 then Ok tt else Err OverLimit
 
--- one more charge
-unfoldable pub charge_line : Charges → List Word → Result Charges Cause
-charge_line charges ws = do
+-- one more charge, at this line
+unfoldable pub charge_line : Charges → ℕ → List Word → Result Charges Cause
+charge_line charges number ws = do
   rest ← fixed_in (codes "charge") ws
   room ← room_in charges
   off ← number_in 0 2147483647 rest
   items ← words_in (item_in charges.sources) (record { items = []; turns = charges.turns }) off.1
-  Ok (record charges { list = charges.list ++ record { off = off.0; items = items.items } ∷ []; turns = items.turns })
+  Ok (record charges { list = charges.list ++ record { off = off.0; items = items.items } ∷ []; lines = charges.lines ++ number ∷ []; turns = items.turns })
 
-unfoldable pub power_end : ℕ → Charges → List Line → Result (List Charge) JobFault
-power_end count charges [] = if length charges.list == 0 then Err (record { line = count + 1; cause = Missing }) else Ok charges.list
-power_end count charges (line ∷ rest) = Err (record { line = line.number; cause = BadSection })
+-- the end of the section: at least one charge, and no header but that of a section that may follow
+unfoldable pub power_end : ℕ → Tails → Charges → List Line → Result (Charges × List Line) JobFault
+power_end count tails charges [] = if length charges.list == 0 then Err (record { line = count + 1; cause = Missing }) else Ok (charges, [])
+power_end count tails charges (line ∷ rest) = at_line line.number (tail_header tails (length charges.list) line.words) >> (λ e. Ok (charges, line ∷ rest))
 
--- the charges, by the lines from the section's header on; count is the number of all lines
-unfoldable pub power_in : ℕ → ℕ → List Line → Result (List Charge) JobFault
-power_in count sources [] = Err (record { line = count + 1; cause = Missing })
-power_in count sources (header ∷ rest) =
+-- no charge on a board of so many sources
+abbrev pub no_charges : ℕ → Charges
+no_charges sources = record { sources = sources; list = []; lines = []; turns = 0 }
+
+-- the charges with their lines, by the lines from the section's header on, and the lines from the next header on; count is the number of all lines
+unfoldable pub power_in : ℕ → Tails → ℕ → List Line → Result (Charges × List Line) JobFault
+power_in count tails sources [] = Err (record { line = count + 1; cause = Missing })
+power_in count tails sources (header ∷ rest) =
     at_line header.number (header_end header.words) >> (λ e.
-    lines_in charge_line (record { sources = sources; list = []; turns = 0 }) rest >> (λ x.
-    power_end count x.0 x.1))
+    lines_in charge_line (no_charges sources) rest >> (λ x.
+    power_end count tails x.0 x.1))
+
+-- the charges of a section behind which nothing stands
+abbrev pub last_power_in : ℕ → ℕ → List Line → Result (List Charge) JobFault
+last_power_in count sources ls = power_in count no_tails sources ls >> (λ x. Ok x.0.list)

@@ -55,5 +55,5 @@ unfoldable pub sensors_in : ℕ → ℕ → List Line → Result (List (List ℕ
 sensors_in count sources [] = Err (record { line = count + 1; cause = Missing })
 sensors_in count sources (header ∷ rest) =
     at_line header.number (header_end header.words) >> (λ e.
-    lines_in sensor_line (replicate sources []) rest >> (λ x.
+    lines_in (λ readings number. sensor_line readings) (replicate sources []) rest >> (λ x.
     sensors_end count x.0 x.1))

@@ -16,9 +16,9 @@ words_in f s [] = Ok s
 words_in f s (w ∷ ws) = f s w >>= (λ next. words_in f next ws)
 
 -- a state after each line up to the next header, and the lines from there on
-unfoldable pub lines_in : {S : Type 0} → (S → List Word → Result S Cause) → S → List Line → Result (S × List Line) JobFault
+unfoldable pub lines_in : {S : Type 0} → (S → ℕ → List Word → Result S Cause) → S → List Line → Result (S × List Line) JobFault
 lines_in f s [] = Ok (s, [])
-lines_in f s (line ∷ rest) = if is_header line.words then Ok (s, line ∷ rest) else at_line line.number (f s line.words) >> (λ next. lines_in f next rest)
+lines_in f s (line ∷ rest) = if is_header line.words then Ok (s, line ∷ rest) else at_line line.number (f s line.number line.words) >> (λ next. lines_in f next rest)
 
 -- a header stands alone in its line
 unfoldable pub header_end : List Word → Result (Unit {0}) Cause

@@ -27,12 +27,30 @@ pub struct Turns {
     pub turns: u32,
 }
 
-/// The charges so far, the turns of all of them, and how many sources the board has.
+/// The charges so far, the line of each, the turns of all of them, and how many sources the board has.
 #[derive(Drop)]
 pub struct Charges {
     pub sources: u8,
     pub list: Items<Charge>,
+    pub lines: Items<u32>,
     pub turns: u32,
+}
+
+impl Charges {
+    ghost use Rattle.std.specs.Prelude.{◌≡◌};
+    ghost use Rattle.power_trace.specs.Power.{no_charges};
+
+    /// None yet.
+    pub fn none(alloc: Global, sources: u8) -> Charges
+        ensures { result ≡ no_charges sources }
+    {
+        Charges {
+            sources,
+            list: Items::new(alloc),
+            lines: Items::new(alloc),
+            turns: 0,
+        }
+    }
 }
 
 // The place of the first `*`, or the length.
@@ -118,7 +136,13 @@ impl Section for Charges {
     ghost line = { charge_line };
 
     #[tactic(auto, unfolding(crate::specs::Power::charge_line))]
-    fn read_line(&mut self, alloc: Global, text: &[u8], words: &[Token]) -> Result<(), LineError> {
+    fn read_line(
+        &mut self,
+        alloc: Global,
+        text: &[u8],
+        line: u32,
+        words: &[Token],
+    ) -> Result<(), LineError> {
         let rest = fixed(text, words, b"charge")?;
         room(self)?;
         let (off, items) = number(text, rest, 0, 2147483647)?;
@@ -131,6 +155,7 @@ impl Section for Charges {
             off: off as u32,
             items: so_far.items,
         })?;
+        self.lines.push(line)?;
         self.turns = so_far.turns;
         Ok(())
     }

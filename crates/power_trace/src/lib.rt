@@ -13,9 +13,11 @@ mod section;
 mod sensors;
 mod soak;
 mod soak_program;
+mod tails;
 
 pub use job_parts::{Charge, Item, Job};
-pub use parse::{parse_job, parse_listed};
+pub use parse::{Parts, parse_job, parse_parts};
 pub use power::read_power;
 pub use sensors::read_sensors;
 pub use soak::soak_job;
+pub use tails::Tails;

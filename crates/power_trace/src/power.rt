@@ -1,69 +1,113 @@
 //! The section of the power trace.
 
-ghost use Rattle.std.specs.Prelude.{◌≡◌, ◌<◌, ◌≤◌, ◌^◌, ℕ, length, drop};
+ghost use Rattle.std.specs.Prelude.{◌≡◌, ◌<◌, ◌≤◌, ◌^◌, ℕ, length, drop, IfOk};
+ghost use Rattle.ink_base.specs.Checks.{words_of};
 ghost use Rattle.ink_base.specs.Lines.{lines};
-ghost use Rattle.ink_base.specs.Gives.{GivesJob};
+ghost use Rattle.ink_base.specs.Gives.{GivesJob, at_line};
+ghost use Rattle.ink_base.specs.Suffix.{IsSuffix};
 ghost use Rattle.ink_base.specs.TokenLines.{token_lines};
 ghost use Rattle.ink_base.specs.Tokens.{AreTokens};
-ghost use Rattle.power_trace.specs.Power.{power_end, power_in};
+ghost use Rattle.power_trace.specs.Power.{power_end, power_in, last_power_in};
+ghost use Rattle.power_trace.specs.Tails.{tail_header};
 
 use crate::charges::Charges;
 use crate::headers::{judged_end, missing};
 use crate::section::read_lines;
+use crate::tails::{Tails, tail_header};
 use ink_base::lines::split_line;
-use ink_base::{Cause, JobAnswer, JobFault, Token, Tokens};
+use ink_base::{JobAnswer, Token, Tokens};
 use job_parts::Charge;
 use prog_check::Accepted;
 use sqlite_items::Items;
 use std::alloc::Global;
 
-// The end of the section: no header stands behind it.
+fn judged_tail(
+    tails: Tails,
+    charges: usize,
+    text: &[u8],
+    line: u32,
+    words: &[Token],
+) -> Result<(), JobAnswer>
+    ensures { GivesJob (λ x. x) result (at_line line (tail_header tails charges (words_of text.now words.now))) }
+{
+    match tail_header(tails, charges, text, words) {
+        Ok(()) => Ok(()),
+        Err(e) => Err(e.at(line)),
+    }
+}
+
+// The end of the section, and the tokens of the one that follows, if one does.
 #[tactic(auto, unfolding(crate::specs::Power::power_end))]
 fn power_end(
     charges: Charges,
+    tails: Tails,
     text: &[u8],
     lines: u32,
     tokens: &[Token],
-) -> Result<Items<Charge>, JobAnswer>
+) -> Result<Charges, JobAnswer>
     requires { lines < 2 ^ 31 }
-    ensures { GivesJob (λ list. list) result (power_end lines charges (token_lines text.now tokens.now)) }
+    ensures { GivesJob (λ read. (read, token_lines text.now tokens.now)) result (power_end lines tails charges (token_lines text.now tokens.now)) }
 {
     if !tokens.is_empty() {
-        let (line, _words, _rest) = split_line(tokens);
-        return Err(JobAnswer::Fault(JobFault {
-            line,
-            cause: Cause::BadSection,
-        }));
+        let (line, words, _rest) = split_line(tokens);
+        judged_tail(tails, charges.list.len(), text, line, words)?;
+        return Ok(charges);
     }
     if charges.list.is_empty() {
         return Err(missing(lines));
     }
-    Ok(charges.list)
+    Ok(charges)
 }
 
+// The charges, and the tokens from the next header on.
 #[tactic(auto, unfolding(crate::specs::Power::power_in))]
-fn power(
+fn power<'a>(
     alloc: Global,
     text: &[u8],
+    tails: Tails,
     lines: u32,
     sources: u8,
-    tokens: &[Token],
-) -> Result<Items<Charge>, JobAnswer>
+    tokens: &'a [Token],
+) -> Result<(Charges, &'a [Token]), JobAnswer>
     requires { lines < 2 ^ 31 }
-    ensures { GivesJob (λ list. list) result (power_in lines sources (token_lines text.now tokens.now)) }
+    ensures given { GivesJob (λ x. (x.0, token_lines text.now x.1.now)) result (power_in lines tails sources (token_lines text.now tokens.now)) }
+    ensures suffix { IfOk result (λ x. IsSuffix x.1.now tokens.now) }
 {
     if tokens.is_empty() {
         return Err(missing(lines));
     }
     let (line, words, rest) = split_line(tokens);
     judged_end(text, line, words)?;
-    let mut charges = Charges {
-        sources,
-        list: Items::new(alloc),
-        turns: 0,
-    };
+    let mut charges = Charges::none(alloc, sources);
     let rest = read_lines(&mut charges, alloc, text, rest)?;
-    power_end(charges, text, lines, rest)
+    let charges = power_end(charges, tails, text, lines, rest)?;
+    Ok((charges, rest))
+}
+
+/// Reads the section `[power]` as `read_power` does, where some sections may follow it: the charges with their lines, and the index of the
+/// header behind the section, or the number of tokens. The header of a section that may not follow is `BadSection`, another one before the
+/// first charge `Missing`, and a word behind it `UnknownWord`.
+pub fn read_charges(
+    alloc: Global,
+    text: &[u8],
+    tokens: &Tokens,
+    at: u32,
+    tails: Tails,
+    program: &Accepted,
+) -> Result<(Charges, u32), JobAnswer>
+    requires short { length text.now ≤ 4194304 }
+    requires tokens { AreTokens text.now tokens.now.list.items tokens.now.lines }
+    requires at { at ≤ length tokens.now.list.items }
+    ensures given { GivesJob (λ x. (x.0, token_lines text.now (drop x.1 tokens.now.list.items))) result (power_in (length (lines text.now)) tails (length program.now.sources) (token_lines text.now (drop at tokens.now.list.items))) }
+    ensures within { IfOk result (λ x. x.1 ≤ length tokens.now.list.items) }
+{
+    let sources = program.program().sources.len();
+    let all = tokens.list.as_slice();
+    let (_before, from) = all.split_at(at as usize);
+    match power(alloc, text, tails, tokens.lines, sources as u8, from) {
+        Ok((charges, rest)) => Ok((charges, (all.len() - rest.len()) as u32)),
+        Err(e) => Err(e),
+    }
 }
 
 /// Reads the section `[power]` of a text of at most 4,194,304 bytes, by its tokens, from the index of the section's header on:
@@ -81,9 +125,8 @@ pub fn read_power(
     requires short { length text.now ≤ 4194304 }
     requires tokens { AreTokens text.now tokens.now.list.items tokens.now.lines }
     requires at { at ≤ length tokens.now.list.items }
-    ensures { GivesJob (λ list. list) result (power_in (length (lines text.now)) (length program.now.sources) (token_lines text.now (drop at tokens.now.list.items))) }
+    ensures { GivesJob (λ list. list) result (last_power_in (length (lines text.now)) (length program.now.sources) (token_lines text.now (drop at tokens.now.list.items))) }
 {
-    let sources = program.program().sources.len();
-    let (_before, from) = tokens.list.as_slice().split_at(at as usize);
-    power(alloc, text, tokens.lines, sources as u8, from)
+    let (charges, _end) = read_charges(alloc, text, tokens, at, Tails::none(), program)?;
+    Ok(charges.list)
 }

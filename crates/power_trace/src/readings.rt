@@ -78,10 +78,16 @@ fn read_values(values: &mut Items<u32>, text: &[u8], words: &[Token]) -> Result<
 }
 
 impl Section for Readings {
-    ghost line = { sensor_line };
+    ghost line = { λ readings _. sensor_line readings };
 
     #[tactic(auto, unfolding(crate::specs::Sensors::sensor_line))]
-    fn read_line(&mut self, _alloc: Global, text: &[u8], words: &[Token]) -> Result<(), LineError> {
+    fn read_line(
+        &mut self,
+        _alloc: Global,
+        text: &[u8],
+        _line: u32,
+        words: &[Token],
+    ) -> Result<(), LineError> {
         let (name, values) = first(text, words)?;
         match source(self.lists.len(), name) {
             Some(i) => read_values(&mut self.lists[i], text, values),

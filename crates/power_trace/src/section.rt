@@ -15,11 +15,17 @@ use std::alloc::Global;
 
 /// What the lines of a section add to.
 pub trait Section {
-    ghost line: { Self → List (List ℕ) → Result Self Reason };
+    ghost line: { Self → ℕ → List (List ℕ) → Result Self Reason };
 
-    /// Adds a line.
-    fn read_line(&mut self, alloc: Global, text: &[u8], words: &[Token]) -> Result<(), LineError>
-        ensures { Leaves result self.new (line self.old (words_of text.now words.now)) };
+    /// Adds the line of this number.
+    fn read_line(
+        &mut self,
+        alloc: Global,
+        text: &[u8],
+        number: u32,
+        words: &[Token],
+    ) -> Result<(), LineError>
+        ensures { Leaves result self.new (line self.old number (words_of text.now words.now)) };
 }
 
 fn judged_line<S: Section>(
@@ -29,9 +35,9 @@ fn judged_line<S: Section>(
     line: u32,
     words: &[Token],
 ) -> Result<(), JobAnswer>
-    ensures { LeavesJob result section.new (at_line line (S.line section.old (words_of text.now words.now))) }
+    ensures { LeavesJob result section.new (at_line line (S.line section.old line (words_of text.now words.now))) }
 {
-    match section.read_line(alloc, text, words) {
+    match section.read_line(alloc, text, line, words) {
         Ok(()) => Ok(()),
         Err(e) => Err(e.at(line)),
     }
