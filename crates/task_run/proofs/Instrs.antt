@@ -14,6 +14,7 @@ use Rattle.task_isa.specs.declared.sent.Sent.{Sent}
 use Rattle.task_isa.specs.Acts.{Cpu, act_of}
 use Rattle.task_isa.specs.Meaning.{GoesOn, HasTrapped, execute, advance_with, instr_at}
 use Rattle.task_isa.specs.Code.{word_of_instr, decoded}
+use Rattle.task_isa.proofs.Codes.{decoded-word}
 use Rattle.prog_check.specs.Lookup.{thread_def}
 use Rattle.prog_check.specs.Accepted.{IsAccepted}
 use Rattle.ink_layout.specs.declared.pick.Pick.{Pick}
@@ -106,7 +107,7 @@ module _ (program : Program) (m : Model) (words : Memory) (r : TaskMachine) (y :
       let a : Assignment = assignment program m r.pick in
       let word : words (Code r.execution.task.0 r.execution.at) ≡ word_of_instr (instr_at a.code r.execution.at) =
       ap (λ k. words (Code k r.execution.at)) g.task ∙ stands.code a.task r.execution.at known.known g.inside
-      in ap (λ w. decoded w) word ∙ (accepted.tasks a.task known.known).read_back r.execution.at g.inside
+      in ap (λ w. decoded w) word ∙ decoded-word (instr_at a.code r.execution.at) ((accepted.tasks a.task known.known).fits r.execution.at g.inside)
 
   pub fetch_serving : IsAccepted program → (readings : Readings) → IsSound program readings m →
       Serving program words m (after_fetch program r (instr_of (decoded (words (Code r.execution.task.0 r.execution.at)))))
