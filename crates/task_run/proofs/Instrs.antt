@@ -42,7 +42,7 @@ state_is p g = ap (λ (z : Saved). z.state) g.made
 pub holding_end : (program : Program) (m : Model) (words : Memory) (r : TaskMachine) (ending : Ending) (y : Saved) (sends : List Sent) (s o v : ℕ) →
     Holding program words m r y sends s o v → Holding program words m (record r { ending = ending }) y sends s o v
 holding_end program m words r ending y sends s o v h =
-    record { picked = h.picked; stamp = h.stamp; buffered = h.buffered; fresh = h.fresh; logged = h.logged; sent = h.sent; size = h.size }
+    record { picked = h.picked; stamp = h.stamp; buffered = h.buffered; fresh = h.fresh; logged = h.logged; sent = h.sent; pages = h.pages; size = h.size }
 
 module _ (program : Program) (m : Model) (words : Memory) (r : TaskMachine) (y : Saved) (sends : List Sent) (s o v : ℕ)
     (stands : StandsPrivate words program m) (shape : HasShape program m) (h : Holding program words m r y sends s o v)
