@@ -71,6 +71,12 @@ unused_at y stamp origin value w le lt =
     get_or_append_left (header_list y stamp origin value) y.state 0 w lt
     ∙ (get_or-append_right (take 42 (header_list y stamp origin value)) (replicate 6 0) 42 w 0 refl le ∙ get_or-replicate 6 (w - 42) 0 0 zero_word)
 
+-- the stamp of its last commit
+pub stamp_word : (program : Program) (words : Memory) (m : Model) (t : ℕ) (known : t < length program.threads) (h : StandsPrivate words program m) →
+    committed words t header.stamp ≡ (h.threads t known).stamp
+unfolding thread_words
+stamp_word program words m t known h = let x = h.threads t known in x.block header.stamp
+
 -- the time of a chain's first commit
 pub first_word : (program : Program) (words : Memory) (m : Model) (t : ℕ) → t < length program.threads → StandsPrivate words program m →
     committed words t header.first ≡ (thread_of m t).first

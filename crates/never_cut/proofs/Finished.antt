@@ -1,5 +1,5 @@
 -- At most one thread has a finished event, from one legal entry to the next.
-use Rattle.std.proofs.Common.{◌≡◌, ◌≢◌, ℕ, ◌<◌, true, false, List, [], ◌∷◌, length, Option, Some, None, refl, ap, ◌∙◌, sym, inl, inr}
+use Rattle.std.proofs.Common.{◌≡◌, ◌≢◌, ℕ, ◌<◌, true, false, length, Option, Some, None, refl, ap, ◌∙◌, sym, inl, inr}
 use Rattle.std.specs.Option.{ForSome}
 use Rattle.std.proofs.lemmas.Bool.{cases_eq}
 use Rattle.ink_base.specs.declared.entry.Entry.{Entry}
@@ -12,15 +12,13 @@ use Rattle.never_cut.specs.declared.scan_model.ScanModel.{ScanModel}
 use Rattle.never_cut.specs.declared.thread_model.ThreadModel.{ThreadModel}
 use Rattle.never_cut.specs.State.{thread_of}
 use Rattle.never_cut.specs.Entries.{Readings, Legal, effect, IsCalm, ArePassed, pushed, fed_by, next_event}
-use Rattle.never_cut.specs.Journal.{after, IsLegal, moved, MayNote}
+use Rattle.never_cut.specs.Journal.{moved, MayNote}
 use Rattle.never_cut.specs.Sound.{IsSound}
 use Rattle.never_cut.specs.kept.Actors.{Follows}
-use Rattle.never_cut.specs.Within.{AreShort}
 use Rattle.never_cut.specs.Finished.{AtMostOneFinished}
 use Rattle.never_cut.proofs.Follows.{follow_finished}
 use Rattle.never_cut.proofs.Releases.{after_release, release_other, release_calm}
 use Rattle.never_cut.proofs.SoundQueues.{thread_changes}
-use Rattle.never_cut.proofs.SoundStates.{sound_step}
 use Rattle.never_cut.proofs.Commits.{commit-other}
 
 -- as many threads have one
@@ -83,11 +81,3 @@ one_moved program readings m (Some e) accepted sound may one = one_step program 
 -- the accesses of sources and clock keep it
 pub one_follows : (program : Program) (m next : Model) → Follows m next → AtMostOneFinished program m → AtMostOneFinished program next
 one_follows program m next f one = same_finished program m next (λ u known. follow_finished m next u f) one
-
--- every legal journal keeps it
-pub one_after : (program : Program) (readings : Readings) (m : Model) (journal : List Entry) → IsAccepted program → AreShort readings → IsSound program readings m →
-    IsLegal program readings m journal → AtMostOneFinished program m → AtMostOneFinished program (after program readings m journal)
-one_after program readings m [] accepted short sound legal one = one
-one_after program readings m (e ∷ journal) accepted short sound legal one =
-    one_after program readings (effect program readings m e) journal accepted short (sound_step program readings m e accepted short sound legal.0) legal.1
-    (one_step program readings m e accepted sound legal.0 one)

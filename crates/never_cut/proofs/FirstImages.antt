@@ -6,6 +6,8 @@ use Rattle.std.proofs.Math.ListN.{get_or-map}
 use Rattle.std.proofs.lemmas.Bool.{cases_lt, le-ltb}
 use Rattle.std.proofs.lemmas.List.{length-replicate, get_or-replicate, get_or_past}
 use Rattle.std.proofs.lemmas.Nat.Bits.{bit_at-lt}
+use Rattle.std.proofs.lemmas.List.Elements.{All-nil}
+use Rattle.ink_base.specs.declared.output.Output.{Output}
 use Rattle.fram_words.specs.Places.{Place, Code, Commit, Page}
 use Rattle.fram_words.specs.Shape.{is_valid, memory_of, address, regions, region, has_indices, thread_regions, queue_regions}
 use Rattle.fram_words.specs.Held.{due_word}
@@ -18,6 +20,7 @@ use Rattle.ink_layout.specs.Shape.{shape_of, pages_of, thread_shape}
 use Rattle.ink_layout.specs.Image.{IsFirstImage, is_timer_of, timed_word}
 use Rattle.ink_layout.specs.Image as image
 use Rattle.ink_layout.proofs.Regions.{at_right}
+use Rattle.never_cut.proofs.Privates.{no_pages}
 use Rattle.never_cut.specs.declared.thread_model.ThreadModel.{ThreadModel}
 use Rattle.never_cut.specs.declared.pipe_model.PipeModel.{PipeModel}
 use Rattle.never_cut.specs.declared.timer_model.TimerModel.{TimerModel}
@@ -202,6 +205,8 @@ first_thread program words t accepted first known = record {
       ∙ sym (first_words program t w accepted.counts.timers);
   event = λ e is. absurd (let none : (thread_of (open_model program) t).event ≡ None = ap (λ (x : ThreadModel). x.event) (open_thread_at program t) in let clash : None ≡ Some e = sym none ∙ is in cc);
   log = λ n lt. absurd (omega arith);
+  reached = All-nil (λ (o : Output). o.stamp ≤ 0);
+  pages = let none = first.each (Commit t) known in let some = no_pages program t in omega (arith, none, some);
 }
 
 -- the private words of the first image, of every accepted program

@@ -11,12 +11,12 @@ use Rattle.never_cut.specs.State.{thread_of, source_of, queue_of, source_in}
 use Rattle.never_cut.specs.Stands.{StandsShared, slots_of}
 use Rattle.never_cut.specs.ReadOff.{told_held, IsReadOff}
 use Rattle.never_cut.specs.Image.{IsImage}
-use Rattle.never_cut.specs.Images.{EveryImageStands}
+use Rattle.never_cut.specs.Images.{KeepTheirNumbers, EveryImageStands}
 use Rattle.never_cut.proofs.SoundStates.{published_bound}
 use Rattle.never_cut.proofs.ReadQueues.{queue_read}
 use Rattle.never_cut.proofs.ReadSources.{source_read, source_keeps}
 use Rattle.never_cut.proofs.ReadStates.{read_sound}
-use Rattle.never_cut.proofs.ReadCounts.{read_stamps, read_lasts}
+use Rattle.never_cut.proofs.ReadCounts.{read_lasts}
 
 module _ (program : Program) (words : Memory) (m : Model) (accepted : IsAccepted program) (image : IsImage program words) (read : IsReadOff program words m) where
   shared : StandsShared words program m
@@ -29,7 +29,7 @@ module _ (program : Program) (words : Memory) (m : Model) (accepted : IsAccepted
         (source_read program words i (let few = accepted.counts.sources in omega arith));
   }
 
-  numbers : (i : ℕ) → i < length program.sources → KeepsNumbers i (words (Src i)) (words (Ack i)) (queue_of (thread_of m (source_thread program i))) (source_in (source_of m i))
+  numbers : KeepTheirNumbers program words m
   numbers i known =
       let queue = read.queues (source_thread program i) (accepted.sources i known) in
       subst (λ (z : Queue × Source). KeepsNumbers i (words (Src i)) (words (Ack i)) z.0 z.1) (λ k. (sym queue k, sym (read.sources i known) k)) (source_keeps program words i (image.sources i known))
@@ -42,7 +42,6 @@ every_image program readings listed words m accepted image fresh read are =
       numbers = numbers program words m accepted image read;
       start = record {
         sound = sound;
-        stamps = read_stamps program listed words m accepted image fresh read;
         counts = read_lasts program listed words m accepted image fresh read (λ t known. published_bound program readings m t sound known);
       };
     }

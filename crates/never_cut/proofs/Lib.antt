@@ -6,6 +6,7 @@ pub mod Releases
 pub mod Scans
 pub mod Follows
 pub mod Journals
+pub mod Values
 pub mod TaskRuns
 pub mod Outputs
 pub mod Picks
@@ -21,8 +22,9 @@ pub mod SoundThreads
 pub mod Ready
 pub mod SoundCommits
 pub mod PickedEnds
-pub mod SoundStates
+pub mod Commits
 pub mod Finished
+pub mod SoundStates
 pub mod Lasting
 pub mod Starts
 pub mod Firsts
@@ -33,7 +35,6 @@ pub mod Timely
 pub mod Bounds
 pub mod Steps
 pub mod Opens
-pub mod Commits
 pub mod Settled
 pub mod Traps
 pub mod ThreadStates
@@ -45,8 +46,8 @@ pub mod FirstImages
 pub mod Costs
 pub mod ReadQueues
 pub mod ReadSources
-pub mod ReadStates
 pub mod ReadCounts
+pub mod ReadStates
 pub mod ImagesStand
 pub mod ToldQueues
 pub mod StatesImage

@@ -19,4 +19,4 @@ pub picked_end : (program : Program) (readings : Readings) (words : Memory) (m :
     IsFittingEnd program pick.thread.0 (thread_def program pick.thread.0).state (room_of (start_at program m pick.thread.0 pick.event h.scan.time))
     (end_at program m pick.thread.0 pick.event h.scan.time)
 picked_end program readings words m pick accepted sound h =
-    end_fits_at program readings m pick.thread.0 pick.event h.scan.time accepted (parts_of program readings m sound) h.known (sound.scan h.scan h.scanned)
+    end_fits_at program readings m pick.thread.0 pick.event h.scan accepted (parts_of program readings m sound) h.known h.scanned h.pending_is

@@ -1,13 +1,15 @@
 -- What the private words stand for outlasts whatever leaves them and what they tell as they are.
-use Rattle.std.proofs.Common.{◌≡◌, ℕ, ◌+◌, ◌%◌, ◌<◌, List, length, filter, refl, sym, ap, ◌∙◌, subst, inl, inr}
-use Rattle.std.specs.Prelude.{◌==◌, slice_index}
+use Rattle.std.proofs.Common.{◌≡◌, ℕ, ◌+◌, ◌%◌, ◌^◌, ◌<◌, ◌≤◌, List, length, filter, refl, sym, ap, ◌∙◌, subst, arith, inl, inr}
+use Rattle.std.specs.Prelude.{◌==◌, slice_index, All}
 use Rattle.std.specs.Option.{ForSome}
+use Rattle.std.proofs.Math.Pow.{pow-lt}
 use Rattle.ink_base.specs.declared.output.Output.{Output}
 use Rattle.task_isa.specs.declared.program.Program.{Program}
 use Rattle.fram_words.specs.Places.{Code, Commit, Log, Ring, Ack, Memory, store}
 use Rattle.fram_words.specs.Held.{origin_word}
 use Rattle.thread_state.specs.Pages.{place_in, committed}
-use Rattle.prog_check.specs.Lookup.{pipe_def}
+use Rattle.prog_check.specs.Lookup.{thread_def, pipe_def}
+use Rattle.ink_layout.specs.Shape.{pages_of}
 use Rattle.never_cut.specs.declared.model.Model.{Model}
 use Rattle.never_cut.specs.declared.pipe_model.PipeModel.{PipeModel}
 use Rattle.never_cut.specs.State.{thread_of, no_pipe}
@@ -15,9 +17,14 @@ use Rattle.never_cut.specs.Commit.{outputs_of}
 use Rattle.never_cut.specs.Stands.{saved, thread_words, log_of, AreLogged, StandsThread, StandsPipe, StandsPrivate}
 use Rattle.never_cut.specs.kept.Actors.{SamePrivate}
 
--- the words that blocks, logs, rings and code have are as they were
+-- a commit word without a bit names pages that are there
+pub no_pages : (program : Program) (t : ℕ) → 0 < 2 ^ pages_of (thread_def program t)
+no_pages program t = let some : 0 < pages_of (thread_def program t) = omega arith in let more : 2 ^ 0 < 2 ^ pages_of (thread_def program t) = pow-lt some in omega (arith, more)
+
+-- the words that commit words, blocks, logs, rings and code have are as they were
 pub record SameBlocks (old new : Memory) : Type 0 where
   pub code : (x n : ℕ) → new (Code x n) ≡ old (Code x n)
+  pub commit_word : (t : ℕ) → new (Commit t) ≡ old (Commit t)
   pub committed_word : (t w : ℕ) → committed new t w ≡ committed old t w
   pub log : (t n : ℕ) → new (Log t n) ≡ old (Log t n)
   pub ring : (q n : ℕ) → new (Ring q n) ≡ old (Ring q n)
@@ -42,6 +49,8 @@ thread_stays words new program m next t same private h = record {
   block = λ w. same.committed_word t w ∙ (h.block w ∙ ap (λ y. slice_index (thread_words y h.stamp h.origin h.value) w) (sym (private.saves t)));
   event = subst (λ o. ForSome o (λ e. (h.origin ≡ origin_word e.origin) × (h.value ≡ e.value))) (sym (private.event t)) h.event;
   log = subst (λ l. AreLogged (log_of new t) l) (sym (outputs_same m next t private.outputs)) (λ n lt. same.log t n ∙ h.log n lt);
+  reached = subst (All (λ (o : Output). o.stamp ≤ h.stamp)) (sym (outputs_same m next t private.outputs)) h.reached;
+  pages = subst (λ c. c < 2 ^ pages_of (thread_def program t)) (sym (same.commit_word t)) h.pages;
 }
 
 pub pipe_stays : (words new : Memory) (program : Program) (m next : Model) (q : ℕ) → SameBlocks words new → SamePrivately program m next →
@@ -71,6 +80,7 @@ committed-same words new t w same = ap (λ c. new (place_in t c w)) (same (Commi
 pub blocks_same : (words new : Memory) → SamePrivate words new → SameBlocks words new
 blocks_same words new same = record {
   code = λ x n. same (Code x n) tt;
+  commit_word = λ t. same (Commit t) tt;
   committed_word = λ t w. committed-same words new t w same;
   log = λ t n. same (Log t n) tt;
   ring = λ q n. same (Ring q n) tt;
@@ -78,10 +88,10 @@ blocks_same words new same = record {
 
 -- a store in the words of queues
 pub slot_blocks : (words : Memory) (t n v : ℕ) → SameBlocks words (store words (Rattle.fram_words.specs.Places.Slot t n) v)
-slot_blocks words t n v = record { code = λ x k. refl; committed_word = λ u w. refl; log = λ u k. refl; ring = λ q k. refl }
+slot_blocks words t n v = record { code = λ x k. refl; commit_word = λ u. refl; committed_word = λ u w. refl; log = λ u k. refl; ring = λ q k. refl }
 
 pub ack_blocks : (words : Memory) (i v : ℕ) → SameBlocks words (store words (Ack i) v)
-ack_blocks words i v = record { code = λ x k. refl; committed_word = λ u w. refl; log = λ u k. refl; ring = λ q k. refl }
+ack_blocks words i v = record { code = λ x k. refl; commit_word = λ u. refl; committed_word = λ u w. refl; log = λ u k. refl; ring = λ q k. refl }
 
 pub same_blocks : (words : Memory) → SameBlocks words words
-same_blocks words = record { code = λ x k. refl; committed_word = λ u w. refl; log = λ u k. refl; ring = λ q k. refl }
+same_blocks words = record { code = λ x k. refl; commit_word = λ u. refl; committed_word = λ u w. refl; log = λ u k. refl; ring = λ q k. refl }

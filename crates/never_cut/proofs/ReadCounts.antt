@@ -1,9 +1,9 @@
 -- The outputs that are read off an image have stamps of commits, and the counts of an image that isn't worn have room.
 use Rattle.std.proofs.Common.{◌≡◌, inl, inr, ℕ, suc, ◌+◌, ◌-◌, ◌/◌, ◌^◌, ◌<◌, ◌≤◌, ◌==◌, Bool, true, false, cond, List, [], ◌∷◌, length, get_or, Option, Some, None, refl, sym, ap, ◌∙◌, subst, arith}
 use Rattle.std.specs.Prelude.{All}
-use Rattle.std.proofs.lemmas.Bool.{cases_lt, eq-eqb}
+use Rattle.std.proofs.lemmas.Bool.{cases_eq, cases_lt, eq-eqb, eqb-true}
 use Rattle.std.proofs.lemmas.List.{get_or_past, get_or-map}
-use Rattle.std.proofs.lemmas.List.Elements.{All-nil, All-cons}
+use Rattle.std.proofs.lemmas.List.Elements.{All-nil, All-cons, All-filter, filter_passes}
 use Rattle.ink_base.specs.declared.output.Output.{Output}
 use Rattle.task_isa.specs.declared.program.Program.{Program}
 use Rattle.fram_words.specs.Places.{Memory, Log}
@@ -20,11 +20,11 @@ use Rattle.never_cut.specs.declared.scan_model.ScanModel.{ScanModel}
 use Rattle.never_cut.specs.State.{thread_of, queue_of, pipe_of, no_thread, no_pipe}
 use Rattle.never_cut.specs.Outputs.{outputs_in}
 use Rattle.never_cut.specs.Commit.{outputs_of}
-use Rattle.never_cut.specs.Laws.{HasStamps}
+use Rattle.never_cut.specs.Sound.{HasStamps}
 use Rattle.never_cut.specs.Stands.{flag}
 use Rattle.never_cut.specs.Within.{is_scanning, LastsThread, Lasts}
-use Rattle.never_cut.specs.ReadOff.{IsOutputOf, IsReadOff}
-use Rattle.never_cut.specs.Image.{IsImage, taken_of}
+use Rattle.never_cut.specs.ReadOff.{IsReadOff}
+use Rattle.never_cut.specs.Image.{stamp_at, IsLogWord, IsImage, taken_of}
 use Rattle.never_cut.specs.Worn.{IsWorn, ManyCommits, ManyServices, ManyTaken}
 use Rattle.never_cut.proofs.Blocks.{served_word, trapped_word, expired_word, outputs_word, taken_count}
 
@@ -50,38 +50,60 @@ each_output P count (o ∷ outputs) known each =
     behind t n d true lt less each = each (suc n) d lt (omega arith)
     behind t n d false lt less each = each n d lt less
 
--- the values of a thread's outputs have 32 bits, as all have
-value_kept : (t : ℕ) (o : Output) (outputs : List Output) (b : Bool) → o.value < 2 ^ 32 → All (λ (o : Output). o.value < 2 ^ 32) (outputs_in t outputs) →
-    All (λ (o : Output). o.value < 2 ^ 32) (cond b (o ∷ outputs_in t outputs) (outputs_in t outputs))
-value_kept t o outputs true small rest = All-cons (λ (o : Output). o.value < 2 ^ 32) o (outputs_in t outputs) small rest
-value_kept t o outputs false small rest = rest
+module _ (program : Program) (words : Memory) (m : Model) (image : IsImage program words) (read : IsReadOff program words m) where
+  -- an output stands in the log of its thread
+  stamp_is : (t n : ℕ) (d : Output) → t < length program.threads → n < length (outputs_of m t) → stamp_at words t n ≡ (get_or (outputs_of m t) n d).stamp
+  stamp_is t n d known lt =
+      let o : Output = get_or (outputs_of m t) n d in
+      let word : words (Log t n) ≡ output_word o = (read.private.threads t known).log n lt ∙ get_or-map output_word (outputs_of m t) n d 0 lt in
+      let small : o.value < 2 ^ 32 = All-filter (λ (x : Output). x.thread.0 == t) (λ (x : Output). x.value < 2 ^ 32) m.outputs (λ k e less. (read.outputs k e less).1) n d lt in
+      omega (arith, word, small)
 
-values_kept : (program : Program) (t : ℕ) (outputs : List Output) → All (IsOutputOf program) outputs → All (λ (o : Output). o.value < 2 ^ 32) (outputs_in t outputs)
-values_kept program t [] all = All-nil (λ (o : Output). o.value < 2 ^ 32)
-values_kept program t (o ∷ outputs) all =
-    value_kept t o outputs (o.thread.0 == t) (all 0 o (omega arith)).1 (values_kept program t outputs (λ k d lt. all (suc k) d (omega arith)))
+  thread_is : (t n : ℕ) (d : Output) → n < length (outputs_of m t) → (get_or (outputs_of m t) n d).thread.0 ≡ t
+  thread_is t n d lt = eqb-true _ _ (filter_passes (λ (x : Output). x.thread.0 == t) m.outputs n d lt)
+
+  checked : (t n : ℕ) → t < length program.threads → n < length (outputs_of m t) → IsLogWord program words t n
+  checked t n known lt = let count = outputs_word program words m t known read.private in image.logs t n known (omega (arith, count, lt))
+
+  -- its stamp is one that its thread has reached
+  stamp_made : (t n : ℕ) (d : Output) → t < length program.threads → n < length (outputs_of m t) →
+      (1 ≤ (get_or (outputs_of m t) n d).stamp) × ((get_or (outputs_of m t) n d).stamp ≤ m.commits)
+  stamp_made t n d known lt =
+      let is = stamp_is t n d known lt in
+      let right = checked t n known lt in
+      let least = right.least in
+      let most = right.most in
+      let le = read.private.stamps t known in
+      (omega (arith, is, least), omega (arith, is, most, le))
+
+  -- and no other thread's
+  stamp_own : (t n u k : ℕ) (d e : Output) → t < length program.threads → n < length (outputs_of m t) → u < length program.threads → k < length (outputs_of m u) →
+      (get_or (outputs_of m u) k e).stamp ≡ (get_or (outputs_of m t) n d).stamp → (get_or (outputs_of m u) k e).thread.0 ≡ (get_or (outputs_of m t) n d).thread.0
+  stamp_own t n u k d e known lt there less same =
+      let stamps : stamp_at words u k ≡ stamp_at words t n = stamp_is u k e there less ∙ (same ∙ sym (stamp_is t n d known lt)) in
+      let mine = outputs_word program words m t known read.private in
+      let its = outputs_word program words m u there read.private in
+      elim (cases_eq u t) [
+        | inl is ↦ thread_is u k e less ∙ (is ∙ sym (thread_is t n d lt))
+        | inr apart ↦ elim (cases_lt u t) [
+          | inl before ↦ absurd ((checked t n known lt).own u k before (omega (arith, its, less)) stamps)
+          | inr behind ↦ absurd ((checked u k there less).own t n (omega (arith, behind, apart)) (omega (arith, mine, lt)) (sym stamps))
+        ]
+      ]
+
+  pub read_stamps : HasStamps m.commits m.outputs
+  read_stamps =
+      let known : All (λ (o : Output). o.thread.0 < length program.threads) m.outputs = λ k d lt. (read.outputs k d lt).0 in
+      record {
+        made = each_output (λ (o : Output). (1 ≤ o.stamp) × (o.stamp ≤ m.commits)) (length program.threads) m.outputs known stamp_made;
+        ordered = read.ordered;
+        own = each_output (λ (o : Output). All (λ (other : Output). other.stamp ≡ o.stamp → other.thread.0 ≡ o.thread.0) m.outputs) (length program.threads) m.outputs known
+            (λ t n d here lt. each_output (λ (other : Output). other.stamp ≡ (get_or (outputs_of m t) n d).stamp → other.thread.0 ≡ (get_or (outputs_of m t) n d).thread.0) (length program.threads) m.outputs known
+            (λ u k e there less. stamp_own t n u k d e here lt there less));
+      }
 
 module _ (program : Program) (listed : List ℕ) (words : Memory) (m : Model) (accepted : IsAccepted program) (image : IsImage program words)
     (fresh : ¬ IsWorn program listed words) (read : IsReadOff program words m) where
-  -- an output's stamp is one that its thread has reached
-  stamp_below : (t n : ℕ) (d : Output) → t < length program.threads → n < length (outputs_of m t) → (get_or (outputs_of m t) n d).value < 2 ^ 32 → (get_or (outputs_of m t) n d).stamp ≤ m.commits
-  stamp_below t n d known lt small =
-      let count = outputs_word program words m t known read.private in
-      let h = read.private.threads t known in
-      let o : Output = get_or (outputs_of m t) n d in
-      let word : words (Log t n) ≡ output_word o = h.log n lt ∙ get_or-map output_word (outputs_of m t) n d 0 lt in
-      let most = (image.logs t n known (omega (arith, count))).most in
-      let le = read.private.stamps t known in
-      let stamp : words (Log t n) / 2 ^ 32 ≡ o.stamp = omega (arith, word, small) in
-      omega (arith, most, le, stamp)
-
-  pub read_stamps : HasStamps m
-  read_stamps = record {
-    below = each_output (λ (o : Output). o.stamp ≤ m.commits) (length program.threads) m.outputs (λ k d lt. (read.outputs k d lt).0)
-        (λ t n d known lt. stamp_below t n d known lt (values_kept program t m.outputs read.outputs n d lt));
-    ordered = read.ordered;
-  }
-
   -- a count of services
   services_few : (t w : ℕ) → t < length program.threads → header.served ≤ w → w ≤ header.expired → committed words t w < 2 ^ 31
   services_few t w known from to =

@@ -23,12 +23,15 @@ use Rattle.never_cut.specs.declared.scan_model.ScanModel.{ScanModel}
 use Rattle.never_cut.specs.State.{thread_of, pipe_of, timer_of, source_of, queue_of}
 use Rattle.never_cut.specs.Entries.{Readings, readings_of}
 use Rattle.never_cut.specs.Ranges.{IsOwnOrigin, IsTaskOf}
+use Rattle.never_cut.specs.Finished.{AtMostOneFinished}
+use Rattle.never_cut.specs.Stands.{saved}
 use Rattle.never_cut.specs.Sound.{unsettled_into, IsQueued, IsServed, IsChain, IsSoundThread, IsSoundPipe, IsSoundTimer, IsSoundSource, IsSound}
 use Rattle.never_cut.specs.ReadOff.{told_finished, told_released, told_held, told_queue, told_source, IsReadOff}
 use Rattle.never_cut.specs.Image.{HasChain, IsChainValue, IsTakenLast, IsServedFirst, IsBlockWord, IsImage, taken_of, written_of}
 use Rattle.never_cut.specs.Worn.{IsWorn, LateClock, ManyPositions, listed_into}
 use Rattle.never_cut.specs.Images.{AreListed}
-use Rattle.never_cut.proofs.Blocks.{running_word, first_word, outputs_word, event_words, taken_count, written_count, timer_count, period_count}
+use Rattle.never_cut.proofs.ReadCounts.{read_stamps}
+use Rattle.never_cut.proofs.Blocks.{state_at, running_word, first_word, outputs_word, event_words, taken_count, written_count, timer_count, period_count}
 use Rattle.never_cut.proofs.ReadQueues.{events_read, finished_held}
 use Rattle.never_cut.proofs.ReadSources.{source_ordered}
 
@@ -142,6 +145,22 @@ module _ (program : Program) (readings : Readings) (listed : List ℕ) (words : 
           | inr fits ↦ rw (count, same) fits
         ]
 
+    -- the numbers of the state are in the words behind the header
+    state_small : (k : ℕ) → slice_index (thread_of m t).state k < 2 ^ 32
+    state_small k =
+        elim (cases_lt k (length (thread_of m t).state)) [
+          | inl lt ↦
+              let h = read.private.threads t known in
+              let from : 48 ≤ header.state k = omega arith in
+              let at : header.state k - 48 ≡ k = omega arith in
+              let is : committed words t (header.state k) ≡ slice_index (thread_of m t).state (header.state k - 48) =
+              h.block (header.state k) ∙ state_at (saved program m t) h.stamp h.origin h.value (header.state k) from in
+              let small : committed words t (header.state k) < 2 ^ 32 =
+              (image.blocks t (header.state k) known (let size = read.shape.states t known in omega (arith, size, lt))).state from in
+              subst (λ j. slice_index (thread_of m t).state j < 2 ^ 32) at (subst (λ v. v < 2 ^ 32) is small)
+          | inr past ↦ let none : slice_index (thread_of m t).state k ≡ 0 = get_or_past (thread_of m t).state k 0 past in omega (arith, none)
+        ]
+
     thread_sound : IsSoundThread program readings m t
     thread_sound = record {
       positions = positions;
@@ -151,6 +170,7 @@ module _ (program : Program) (readings : Readings) (listed : List ℕ) (words : 
       chain = chain_sound;
       outputs = let is = outputs_word program words m t known read.private in let le = (checked t header.outputs known (omega arith)).outputs refl in omega (arith, is, le);
       first = let is = first_word program words m t known read.private in let le = (checked t header.first known (omega arith)).first refl in let now = read.clock in omega (arith, is, le, now);
+      values = state_small;
     }
 
   pipe_sound : (q : ℕ) → q < length program.pipes → IsSoundPipe program m q
@@ -202,6 +222,19 @@ module _ (program : Program) (readings : Readings) (listed : List ℕ) (words : 
   no_scan : (scan : ScanModel) → m.scan ≡ Some scan → ⊥
   no_scan scan is = absurd (let clash : None ≡ Some scan = sym read.scan ∙ is in cc)
 
+  -- no earlier thread has a finished event beside another's
+  only_one : AtMostOneFinished program m
+  only_one t u known there here other =
+      let mine : told_finished program words t ≡ true = sym (finished_is t known) ∙ here in
+      let its : told_finished program words u ≡ true = sym (finished_is u there) ∙ other in
+      elim (cases_lt t u) [
+        | inl before ↦ absurd (let clash : true ≡ false = sym mine ∙ (image.queues u there).only its t before in cc)
+        | inr le ↦ elim (cases_lt u t) [
+          | inl before ↦ absurd (let clash : true ≡ false = sym its ∙ (image.queues t known).only mine u before in cc)
+          | inr ge ↦ omega (arith, le, ge)
+        ]
+      ]
+
   pub read_sound : IsSound program readings m
   read_sound = record {
     shape = read.shape;
@@ -213,4 +246,7 @@ module _ (program : Program) (readings : Readings) (listed : List ℕ) (words : 
     scan = λ scan is. absurd (no_scan scan is);
     begun = λ scan is. absurd (no_scan scan is);
     calm = λ scan is. absurd (no_scan scan is);
+    one = only_one;
+    stamps = read_stamps program words m image read;
+    values = λ k d lt. (read.outputs k d lt).1;
   }

@@ -1,9 +1,12 @@
 -- A legal commit keeps a state sound.
-use Rattle.std.proofs.Common.{◌≡◌, ◌≢◌, ℕ, ◌+◌, ◌-◌, ◌<◌, ◌≤◌, Bool, true, false, List, ◌++◌, length, set, Option, Some, None, refl, sym, ap, ◌∙◌, arith, subst, inl, inr, length-append, length-set}
-use Rattle.std.specs.Prelude.{if◌then◌else◌, ◌&&◌, ◌==◌}
+use Rattle.std.proofs.Common.{◌≡◌, ◌≢◌, ℕ, ◌+◌, ◌-◌, ◌^◌, ◌<◌, ◌≤◌, Bool, true, false, List, ◌++◌, length, set, Option, Some, None, refl, sym, ap, ◌∙◌, arith, subst, inl, inr, length-append, length-set}
+use Rattle.std.specs.Prelude.{if◌then◌else◌, ◌&&◌, ◌==◌, All}
 use Rattle.std.proofs.lemmas.Bool.{cases_eq, eqb-true}
 use Rattle.std.proofs.lemmas.List.Sums.{passes_at_first}
+use Rattle.std.proofs.lemmas.List.Elements.{All-append}
 use Rattle.ink_base.specs.declared.event.Event.{Event}
+use Rattle.ink_base.specs.declared.event.Origin.{Origin}
+use Rattle.ink_base.specs.declared.event.Origin.TheVariants as origins
 use Rattle.ink_base.specs.declared.output.Output.{Output}
 use Rattle.ink_base.specs.declared.ids.TaskId.{TaskId}
 use Rattle.ink_base.specs.declared.ids.ThreadId.{ThreadId}
@@ -23,9 +26,10 @@ use Rattle.never_cut.specs.State.{thread_of, is_running}
 use Rattle.never_cut.specs.Pending.{pending}
 use Rattle.never_cut.specs.Commit.{outputs_of, committed, ended, consumed, taken_from, moved_on, with_sends, with_timers, stamped, with_first, thread_after, end_at, start_at, task_at, is_overdue, expired, expired_after}
 use Rattle.never_cut.specs.Entries.{Readings, Legal, effect, readings_of}
-use Rattle.never_cut.specs.Sound.{unsettled_into, sources_in}
-use Rattle.never_cut.proofs.Outputs.{of_thread, outputs-own, outputs-other, length-stamped}
-use Rattle.never_cut.proofs.TaskRuns.{IsFittingEnd, task_fits}
+use Rattle.push_core.specs.Queue.{event_at}
+use Rattle.never_cut.specs.Sound.{IsQueued, HasStamps, unsettled_into, sources_in}
+use Rattle.never_cut.proofs.Outputs.{of_thread, outputs-own, outputs-other, length-stamped, stamped_values, later_stamps, more_stamps}
+use Rattle.never_cut.proofs.TaskRuns.{HasEventBits, IsFittingEnd, task_fits}
 use Rattle.never_cut.proofs.SoundParts.{IsSoundAt, IsServedBy, ThreadSound, PipesSound, TimersSound, HasSoundParts, taken_in}
 use Rattle.never_cut.proofs.SoundSources.{sources_same}
 use Rattle.never_cut.proofs.SoundQueues.{thread_changes}
@@ -69,8 +73,8 @@ made_sound : (program : Program) (readings : Readings) (m : Model) (t : ℕ) (x 
     IsSoundAt program (taken_in pipes) t x (unsettled_into program readings m t (length program.sources)) (length (of_thread t outputs)) m.clock →
     ((u : ℕ) → u ≢ t → length (of_thread u outputs) ≡ length (outputs_of m u)) → ((u : ℕ) → u ≢ t → SameTaken program u (taken_in m.pipes) (taken_in pipes)) →
     length pipes ≡ length program.pipes → length timers ≡ length program.timers → PipesSound program pipes → TimersSound program timers →
-    HasSoundParts program readings (made m t x pipes timers outputs)
-made_sound program readings m t x pipes timers outputs h known new outs taken pipes_count timers_count pipes_sound timers_sound = record {
+    HasStamps (m.commits + 1) outputs → All (λ (o : Output). o.value < 2 ^ 32) outputs → HasSoundParts program readings (made m t x pipes timers outputs)
+made_sound program readings m t x pipes timers outputs h known new outs taken pipes_count timers_count pipes_sound timers_sound stamps words = record {
   threads_count = length-set m.threads t x ∙ h.threads_count;
   pipes_count = pipes_count;
   timers_count = timers_count;
@@ -83,6 +87,8 @@ made_sound program readings m t x pipes timers outputs h known new outs taken pi
   scan = λ scan is. absurd (let clash : None ≡ Some scan = is in cc);
   begun = λ scan is. absurd (let clash : None ≡ Some scan = is in cc);
   calm = λ scan is. absurd (let clash : None ≡ Some scan = is in cc);
+  stamps = stamps;
+  words = words;
 }
 
 -- the outputs of a thread after a commit
@@ -116,7 +122,7 @@ ended_thread program readings m t e time end pipes timers h known le r fits =
     let taken : taken_in (with_sends end.sends pipes) ≡ taken_in pipes = λ k q. sent_taken end.sends pipes q k in
     after_at program (taken_in m.pipes) (taken_in (with_sends end.sends pipes)) t (with_first time x) e end.outcome end.state _ _ _ _ first
     (subst (λ (z : (ℕ → ℕ) × List Event). IsServedBy program z.0 t z.1 e) (sym (λ k. (taken k, held k))) r.served)
-    (first_keeps (λ (z : ThreadModel). z.finished) x time b refl ∙ r.unfinished) fits.effects.state fits.outcome (omega arith)
+    (first_keeps (λ (z : ThreadModel). z.finished) x time b refl ∙ r.unfinished) fits.effects.state fits.effects.values fits.outcome (omega arith)
 
 -- the commit of a task that has ended
 ended_sound : (program : Program) (readings : Readings) (m : Model) (t : ℕ) (e : Event) (time : ℕ) (end : TaskEnd) (pipes : List PipeModel) (timers : List TimerModel) →
@@ -137,6 +143,8 @@ ended_sound program readings m t e time end pipes timers h known le r fits =
     let old = (h.pipes q there).room in
     omega (arith, sent, room, fewer, old)) r.pipes_sound)
     (settings_sound program t end.timers timers r.timers_count fits.effects.timers r.timers_sound)
+    (more_stamps m.commits t m.outputs end.outs h.stamps)
+    (All-append (λ (o : Output). o.value < 2 ^ 32) m.outputs (stamped (m.commits + 1) t end.outs) h.words (stamped_values (m.commits + 1) t end.outs fits.effects.words))
 
 -- the task that a service goes on with, or begins with, is one of the thread
 own_task : (program : Program) (readings : Readings) (m : Model) (t : ℕ) → IsAccepted program → HasSoundParts program readings m → t < length program.threads →
@@ -149,13 +157,46 @@ own_task program readings m t accepted h known = by_running (thread_of m t).runn
     by_running None idle =
         (accepted.served t known, eqb-true _ _ (passes_at_first (λ (task : Task). task.thread.0 == t) program.tasks no_task_def (accepted.served t known)))
 
+-- the bits of an event that is served
+served_bits : (program : Program) (taken : ℕ → ℕ) (t : ℕ) (held : List Event) (o : Origin) (value : ℕ) → IsAccepted program → ((k : ℕ) → k < length held → IsQueued program t (event_at held k)) →
+    IsServedBy program taken t held (record { origin = o; value = value }) → HasEventBits (record { origin = o; value = value })
+served_bits program taken t held (origins.Source source count) value accepted queued served =
+    let is = subst (λ e. IsQueued program t e) served.1 (queued 0 served.0) in
+    let few = accepted.counts.sources in
+    let known = is.0 in
+    (is.3, omega arith)
+served_bits program taken t held (origins.Pipe pipe item) value accepted queued served =
+    let few = accepted.counts.pipes in
+    let known = served.0 in
+    (served.3, omega arith)
+served_bits program taken t held (origins.Timer timer deadline) value accepted queued served =
+    let few = accepted.counts.timers in
+    let known = served.0 in
+    let is = served.3 in
+    (omega arith, omega arith)
+
+-- so it is of a pending event
+pending_bits : (program : Program) (readings : Readings) (m : Model) (t : ℕ) (e : Event) (scan : ScanModel) → IsAccepted program → HasSoundParts program readings m → t < length program.threads →
+    m.scan ≡ Some scan → pending program m t ≡ Some e → HasEventBits e
+pending_bits program readings m t e scan accepted h known is waits = by_running (is_running (thread_of m t)) refl
+  where
+    by_running : (b : Bool) → is_running (thread_of m t) ≡ b → HasEventBits e
+    by_running true runs =
+        served_bits program (taken_in m.pipes) t (thread_of m t).held e.origin e.value accepted (h.threads t known).queued (ready_running program readings m t e scan h known is waits runs).served
+    by_running false idle =
+        served_bits program (taken_in (taken_from e.origin m.pipes)) t (thread_of m t).held e.origin e.value accepted (h.threads t known).queued
+        (ready_idle program readings m t e scan h known is waits idle).served
+
 -- the end of the task that a commit runs
-pub end_fits_at : (program : Program) (readings : Readings) (m : Model) (t : ℕ) (e : Event) (time : ℕ) → IsAccepted program → HasSoundParts program readings m → t < length program.threads →
-    time ≤ m.clock → IsFittingEnd program t (thread_def program t).state (room_of (start_at program m t e time)) (end_at program m t e time)
-end_fits_at program readings m t e time accepted h known le =
+pub end_fits_at : (program : Program) (readings : Readings) (m : Model) (t : ℕ) (e : Event) (scan : ScanModel) → IsAccepted program → HasSoundParts program readings m → t < length program.threads →
+    m.scan ≡ Some scan → pending program m t ≡ Some e →
+    IsFittingEnd program t (thread_def program t).state (room_of (start_at program m t e scan.time)) (end_at program m t e scan.time)
+end_fits_at program readings m t e scan accepted h known is waits =
     let own = own_task program readings m t accepted h known in
     let clock = h.clock in
-    task_fits program (task_at program m t) t (thread_def program t).state (start_at program m t e time) accepted own.0 own.1 (omega arith) (h.threads t known).size
+    let le = h.scan scan is in
+    task_fits program (task_at program m t) t (thread_def program t).state (start_at program m t e scan.time) accepted own.0 own.1 (omega arith)
+    (pending_bits program readings m t e scan accepted h known is waits) (h.threads t known).size (h.threads t known).values
 
 -- the commit by how the task ended, and by whether a chain runs
 abbrev committed_by : Program → ℕ → Event → ℕ → TaskEnd → Bool → Model → Model
@@ -169,7 +210,7 @@ committed_sound : (program : Program) (readings : Readings) (m : Model) (t : ℕ
 committed_sound program readings m t e scan accepted h known is waits = by_running (is_running (thread_of m t)) refl
   where
     fits : IsFittingEnd program t (thread_def program t).state (room_of (start_at program m t e scan.time)) (end_at program m t e scan.time)
-    fits = end_fits_at program readings m t e scan.time accepted h known (h.scan scan is)
+    fits = end_fits_at program readings m t e scan accepted h known is waits
 
     by_overdue : (late : Bool) → IsReady program m t e m.pipes m.timers →
         HasSoundParts program readings (record (if late then expired t e m else ended t e scan.time (end_at program m t e scan.time) m) { commits = m.commits + 1; scan = None })
@@ -177,6 +218,7 @@ committed_sound program readings m t e scan accepted h known is waits = by_runni
         made_sound program readings m t (expired_after e (thread_of m t)) m.pipes m.timers m.outputs h known
         (expired_at program (taken_in m.pipes) t (thread_of m t) e _ _ _ (h.threads t known) r.served r.unfinished)
         (λ u apart. refl) (λ u apart q there reads. refl) h.pipes_count h.timers_count r.pipes_sound r.timers_sound
+        (later_stamps m.commits m.outputs h.stamps) h.words
     by_overdue false r = ended_sound program readings m t e scan.time (end_at program m t e scan.time) m.pipes m.timers h known (h.scan scan is) r fits
 
     by_running : (b : Bool) → is_running (thread_of m t) ≡ b → HasSoundParts program readings (committed_by program t e scan.time (end_at program m t e scan.time) b m)

@@ -1,9 +1,10 @@
 -- A sound state, by the parts that its entries change.
 use Rattle.std.proofs.Common.{◌≡◌, ℕ, ◌+◌, ◌%◌, ◌^◌, ◌<◌, ◌≤◌, true, false, List, length, get_or, Some, None}
-use Rattle.std.specs.Prelude.{slice_index}
+use Rattle.std.specs.Prelude.{slice_index, All}
 use Rattle.std.specs.Option.{ForSome}
 use Rattle.ink_base.specs.declared.event.Event.{Event}
 use Rattle.ink_base.specs.declared.event.Origin.TheVariants as origins
+use Rattle.ink_base.specs.declared.output.Output.{Output}
 use Rattle.task_isa.specs.declared.program.Program.{Program}
 use Rattle.prog_check.specs.Lookup.{thread_def, pipe_def, timer_def, task_def}
 use Rattle.push_core.specs.Table.{greatest_tail}
@@ -15,7 +16,9 @@ use Rattle.never_cut.specs.State.{thread_of, queue_of, no_pipe, no_timer}
 use Rattle.never_cut.specs.Commit.{outputs_of}
 use Rattle.never_cut.specs.Entries.{Readings, IsCalm}
 use Rattle.push_core.specs.Queue.{published, event_at}
-use Rattle.never_cut.specs.Sound.{IsSound, IsSoundThread, IsSoundSource, IsQueued, unsettled_into}
+use Rattle.never_cut.specs.Finished.{AtMostOneFinished}
+use Rattle.never_cut.specs.Sound.{IsSound, IsSoundThread, IsSoundSource, IsQueued, HasStamps, unsettled_into}
+use Rattle.never_cut.proofs.Values.{HaveBits}
 
 -- how many items were taken from each pipe
 abbrev pub taken_in : List PipeModel → ℕ → ℕ
@@ -47,6 +50,7 @@ pub record IsSoundAt (program : Program) (taken : ℕ → ℕ) (t : ℕ) (x : Th
   pub outputs : outs ≤ (thread_def program t).log
   pub first : x.first ≤ clock
   pub size : length x.state ≡ (thread_def program t).state
+  pub values : HaveBits x.state
 
 abbrev pub ThreadSound : Program → Readings → Model → ℕ → Type 0
 ThreadSound program readings m t =
@@ -80,6 +84,8 @@ pub record HasSoundParts (program : Program) (readings : Readings) (m : Model) :
   pub scan : ForSome m.scan (λ scan. scan.time ≤ m.clock)
   pub begun : ForSome m.scan (λ scan. (t : ℕ) → (thread_of m t).first ≤ scan.time)
   pub calm : ForSome m.scan (λ scan. IsCalm program m)
+  pub stamps : HasStamps m.commits m.outputs
+  pub words : All (λ (o : Output). o.value < 2 ^ 32) m.outputs
 
 thread_parts : (program : Program) (readings : Readings) (m : Model) (t : ℕ) → length (thread_of m t).state ≡ (thread_def program t).state → IsSoundThread program readings m t →
     ThreadSound program readings m t
@@ -95,6 +101,7 @@ thread_parts program readings m t size x =
       outputs = x.outputs;
       first = x.first;
       size = size;
+      values = x.values;
     }
 
 pub parts_of : (program : Program) (readings : Readings) (m : Model) → IsSound program readings m → HasSoundParts program readings m
@@ -112,6 +119,8 @@ parts_of program readings m h =
       scan = h.scan;
       begun = h.begun;
       calm = h.calm;
+      stamps = h.stamps;
+      words = h.values;
     }
 
 thread_back : (program : Program) (readings : Readings) (m : Model) (t : ℕ) → ThreadSound program readings m t → IsSoundThread program readings m t
@@ -126,10 +135,11 @@ thread_back program readings m t x =
           record { known = c.known; own = c.own; event = c.event; is = c.is; served = c.served; unfinished = c.unfinished };
       outputs = x.outputs;
       first = x.first;
+      values = x.values;
     }
 
-pub sound_of : (program : Program) (readings : Readings) (m : Model) → HasSoundParts program readings m → IsSound program readings m
-sound_of program readings m h =
+pub sound_of : (program : Program) (readings : Readings) (m : Model) → HasSoundParts program readings m → AtMostOneFinished program m → IsSound program readings m
+sound_of program readings m h one =
     record {
       shape = record { threads = h.threads_count; pipes = h.pipes_count; timers = h.timers_count; sources = h.sources_count; states = λ t lt. (h.threads t lt).size };
       threads = λ t lt. thread_back program readings m t (h.threads t lt);
@@ -140,4 +150,7 @@ sound_of program readings m h =
       scan = h.scan;
       begun = h.begun;
       calm = h.calm;
+      one = one;
+      stamps = h.stamps;
+      values = h.words;
     }

@@ -18,6 +18,7 @@ use Rattle.never_cut.specs.declared.pipe_model.PipeModel.{PipeModel}
 use Rattle.never_cut.specs.State.{pipe_of, no_pipe}
 use Rattle.never_cut.specs.Commit.{room_in, rooms, taken_from, with_item, with_sends}
 use Rattle.never_cut.proofs.Threads.{kept-at}
+use Rattle.never_cut.proofs.Values.{last_below}
 use Rattle.never_cut.proofs.TaskRuns.{IsRightItem}
 use Rattle.never_cut.proofs.SoundParts.{IsSoundPipeAt, PipesSound, taken_in}
 
@@ -87,12 +88,6 @@ taken_fewer (origins.Pipe pipe item) pipes q known =
 pub sent_taken : (sends : List Sent) (pipes : List PipeModel) (q : ℕ) → taken_in (with_sends sends pipes) q ≡ taken_in pipes q
 sent_taken [] pipes q = refl
 sent_taken (s ∷ sends) pipes q = sent_taken sends (with_item s pipes) q ∙ kept-at no_pipe (λ (p : PipeModel). p.taken) pipes s.pipe.0 q _ refl
-
-last_below : (items : List ℕ) (v : ℕ) → v < 2 ^ 32 → ((k : ℕ) → slice_index items k < 2 ^ 32) → (k : ℕ) → slice_index (items ++ v ∷ []) k < 2 ^ 32
-last_below [] v fits h zero = fits
-last_below [] v fits h (suc k) = h k
-last_below (x ∷ items) v fits h zero = h 0
-last_below (x ∷ items) v fits h (suc k) = last_below items v fits (λ j. h (suc j)) k
 
 -- the pipes hold no more than their places, with what is still to be sent
 abbrev Fits : Program → List PipeModel → List Sent → Type 0

@@ -90,6 +90,7 @@ pushed_at program taken t x e left fewer outs clock less h new = record {
   outputs = h.outputs;
   first = h.first;
   size = h.size;
+  values = h.values;
 }
 
 -- the state after the push of an event from source i into the queue of thread t
@@ -139,6 +140,8 @@ push_with program readings m i t e of known there left queued h =
       scan = h.scan;
       begun = begun_with m (push_state m i t e) t (pushed e (thread_of m t)) changes refl refl h.begun;
       calm = calm_with program m (push_state m i t e) t (pushed e (thread_of m t)) changes refl refl h.calm;
+      stamps = h.stamps;
+      words = h.words;
     }
 
 pub push_sound : (program : Program) (readings : Readings) (m : Model) (i : SourceId) → IsAccepted program → AreShort readings → HasSoundParts program readings m →
@@ -165,6 +168,7 @@ released_at program taken t x left outs clock h is = record {
   outputs = h.outputs;
   first = h.first;
   size = h.size;
+  values = h.values;
 }
 
 pub release_sound : (program : Program) (readings : Readings) (m : Model) (t : ThreadId) → HasSoundParts program readings m → Legal program readings m (Release t) →
@@ -192,4 +196,6 @@ release_sound program readings m t h legal =
       scan = h.scan;
       begun = begun_with m (with_thread m t.0 (released (thread_of m t.0))) t.0 (released (thread_of m t.0)) changes refl refl h.begun;
       calm = λ scan is. absurd (let clash : true ≡ false = sym legal.1 ∙ h.calm scan is t.0 legal.0 in cc);
+      stamps = h.stamps;
+      words = h.words;
     }

@@ -35,6 +35,7 @@ tick_sound program readings m by h early =
         outputs = x.outputs;
         first = omega (arith, x.first);
         size = x.size;
+        values = x.values;
       };
       pipes = h.pipes;
       timers = h.timers;
@@ -43,6 +44,8 @@ tick_sound program readings m by h early =
       scan = λ scan is. omega (arith, h.scan scan is);
       begun = h.begun;
       calm = h.calm;
+      stamps = h.stamps;
+      words = h.words;
     }
 
 -- a scan of a sound state: it isn't ahead of the clock, no chain began behind it, and nothing is finished
@@ -66,6 +69,8 @@ with_scan_sound program readings m o h right =
       scan = λ scan is. (right scan is).0;
       begun = λ scan is. (right scan is).1;
       calm = λ scan is. (right scan is).2;
+      stamps = h.stamps;
+      words = h.words;
     }
 
 -- no chain began behind the clock

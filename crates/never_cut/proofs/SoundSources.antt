@@ -73,6 +73,8 @@ accepts_nothing program readings m i s lt h more new =
       scan = h.scan;
       begun = h.begun;
       calm = h.calm;
+      stamps = h.stamps;
+      words = h.words;
     }
 
 pub refuse_sound : (program : Program) (readings : Readings) (m : Model) (i : SourceId) → HasSoundParts program readings m → Legal program readings m (Refuse i) →

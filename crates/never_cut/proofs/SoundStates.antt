@@ -1,7 +1,10 @@
--- Every state that a legal journal of an accepted program reaches is sound, and its positions fit their bits.
-use Rattle.std.proofs.Common.{◌≡◌, ℕ, zero, suc, ◌<◌, ◌≤◌, true, false, List, [], ◌∷◌, length, map, get_or, Some, None, refl, sym, arith, subst}
+-- Every state that a legal journal of an accepted program reaches from a sound one is sound, and its positions fit their bits.
+use Rattle.std.proofs.Common.{◌≡◌, ℕ, zero, suc, ◌^◌, ◌<◌, ◌≤◌, true, false, List, [], ◌∷◌, length, map, get_or, Some, None, refl, sym, ap, ◌∙◌, arith, subst}
+use Rattle.std.specs.Prelude.{All}
+use Rattle.std.proofs.lemmas.List.Elements.{All-nil}
 use Rattle.std.proofs.lemmas.List.{get_or-map, length-map, length-replicate}
 use Rattle.ink_base.specs.declared.ids.ThreadId.{ThreadId}
+use Rattle.ink_base.specs.declared.output.Output.{Output}
 use Rattle.ink_base.specs.declared.entry.Entry.{Entry}
 use Rattle.ink_base.specs.declared.entry.Entry.TheVariants.{Push, Refuse, Skip, Tick, Scan, Look, Commit, Release}
 use Rattle.task_isa.specs.declared.program.Program.{Program}
@@ -26,6 +29,8 @@ use Rattle.never_cut.proofs.SoundSources.{refuse_sound, skip_sound}
 use Rattle.never_cut.proofs.SoundScans.{tick_sound, scan_sound, look_sound}
 use Rattle.never_cut.proofs.SoundQueues.{push_sound, release_sound}
 use Rattle.never_cut.proofs.SoundCommits.{commit_sound}
+use Rattle.never_cut.proofs.Finished.{one_step}
+use Rattle.never_cut.proofs.Values.{zeros_below}
 
 entry_sound : (program : Program) (readings : Readings) (m : Model) (e : Entry) → IsAccepted program → AreShort readings → HasSoundParts program readings m →
     Legal program readings m e → HasSoundParts program readings (effect program readings m e)
@@ -43,6 +48,7 @@ pub sound_step : (program : Program) (readings : Readings) (m : Model) (e : Entr
     Legal program readings m e → IsSound program readings (effect program readings m e)
 sound_step program readings m e accepted short sound legal =
     sound_of program readings (effect program readings m e) (entry_sound program readings m e accepted short (parts_of program readings m sound) legal)
+    (one_step program readings m e accepted sound legal sound.one)
 
 open_at : (defs : List ThreadDef) (t : ℕ) → t < length defs → get_or (map open_thread defs) t no_thread ≡ open_thread (get_or defs t no_thread_def)
 open_at [] t lt = absurd (omega arith)
@@ -70,6 +76,7 @@ open_thread_sound program readings t accepted short lt =
       outputs = omega arith;
       first = omega arith;
       size = length-replicate {A = ℕ} (thread_def program t).state 0;
+      values = zeros_below (thread_def program t).state;
     })
 
 open_pipe_at : (defs : List PipeDef) (q : ℕ) → get_or (map open_pipe defs) q no_pipe ≡ no_pipe
@@ -114,7 +121,14 @@ open_sound program readings accepted short =
       scan = λ scan is. absurd (let clash : None ≡ Some scan = is in cc);
       begun = λ scan is. absurd (let clash : None ≡ Some scan = is in cc);
       calm = λ scan is. absurd (let clash : None ≡ Some scan = is in cc);
+      stamps = record {
+        made = All-nil (λ (o : Output). (1 ≤ o.stamp) × (o.stamp ≤ 0));
+        ordered = λ i j d le lt. absurd (omega arith);
+        own = All-nil (λ (o : Output). All (λ (other : Output). other.stamp ≡ o.stamp → other.thread.0 ≡ o.thread.0) []);
+      };
+      words = All-nil (λ (o : Output). o.value < 2 ^ 32);
     })
+    (λ t u known there done other. absurd (let clash : false ≡ true = sym (ap (λ (x : ThreadModel). x.finished) (open_at program.threads t known)) ∙ done in cc))
 
 -- the state after a legal journal is sound
 pub sound_after : (program : Program) (readings : Readings) (m : Model) (journal : List Entry) → IsAccepted program → AreShort readings → IsSound program readings m →

@@ -11,6 +11,7 @@ use Rattle.task_isa.specs.declared.outcome.Outcome.TheVariants as outcomes
 use Rattle.prog_check.specs.Lookup.{thread_def, pipe_def}
 use Rattle.never_cut.specs.declared.thread_model.ThreadModel.{ThreadModel}
 use Rattle.never_cut.specs.Commit.{is_of_queue, with_end, thread_after, expired_after}
+use Rattle.never_cut.proofs.Values.{HaveBits}
 use Rattle.never_cut.proofs.TaskRuns.{IsRightOutcome}
 use Rattle.never_cut.proofs.SoundParts.{IsSoundAt, IsChainAt, IsServedBy}
 
@@ -36,6 +37,7 @@ settled_at program taken t x left fewer outs clock le h = record {
   outputs = h.outputs;
   first = h.first;
   size = h.size;
+  values = h.values;
 }
 
 -- a thread at another's commit
@@ -59,6 +61,7 @@ other_at program taken next t x left outs clock same h = record {
   outputs = h.outputs;
   first = h.first;
   size = h.size;
+  values = h.values;
 }
 
 -- where a service begins, the thread's first commit is at that time
@@ -76,6 +79,7 @@ first_at program taken t x left outs clock time false le h = record {
   outputs = h.outputs;
   first = le;
   size = h.size;
+  values = h.values;
 }
 
 pub first_keeps : {X : Type 0} (part : ThreadModel → X) (x : ThreadModel) (time : ℕ) (b : Bool) → part (record x { first = time }) ≡ part x →
@@ -93,9 +97,9 @@ queue_held program taken t held (origins.Timer timer deadline) value served is =
 -- a thread whose service is over
 over_at : (program : Program) (taken next : ℕ → ℕ) (t : ℕ) (x : ThreadModel) (e : Event) (state : List ℕ) (served trapped expired left outs more clock : ℕ) →
     IsSoundAt program taken t x left outs clock → IsServedBy program next t x.held e → x.finished ≡ false → length state ≡ (thread_def program t).state →
-    more ≤ (thread_def program t).log →
+    HaveBits state → more ≤ (thread_def program t).log →
     IsSoundAt program next t (with_end e (record x { state = state; served = served; trapped = trapped; expired = expired })) left more clock
-over_at program taken next t x e state served trapped expired left outs more clock h serves clear size fits = record {
+over_at program taken next t x e state served trapped expired left outs more clock h serves clear size values fits = record {
   positions = h.positions;
   queued = h.queued;
   finished = λ is. (queue_held program next t x.held e.origin e.value serves (ap (λ b. b || is_of_queue e) (sym clear) ∙ is), refl);
@@ -104,14 +108,15 @@ over_at program taken next t x e state served trapped expired left outs more clo
   outputs = fits;
   first = h.first;
   size = size;
+  values = values;
 }
 
 -- a thread whose chain goes on
 next_at : (program : Program) (taken next : ℕ → ℕ) (t : ℕ) (x : ThreadModel) (e : Event) (task : TaskId) (state : List ℕ) (left outs more clock : ℕ) →
     IsSoundAt program taken t x left outs clock → IsServedBy program next t x.held e → x.finished ≡ false → length state ≡ (thread_def program t).state →
-    IsRightOutcome program t (outcomes.Next task) → more ≤ (thread_def program t).log →
+    HaveBits state → IsRightOutcome program t (outcomes.Next task) → more ≤ (thread_def program t).log →
     IsSoundAt program next t (thread_after e (outcomes.Next task) state x) left more clock
-next_at program taken next t x e task state left outs more clock h serves clear size right fits = record {
+next_at program taken next t x e task state left outs more clock h serves clear size values right fits = record {
   positions = h.positions;
   queued = h.queued;
   finished = λ is. absurd (let clash : false ≡ true = sym clear ∙ is in cc);
@@ -120,6 +125,7 @@ next_at program taken next t x e task state left outs more clock h serves clear 
   outputs = fits;
   first = h.first;
   size = size;
+  values = values;
 }
   where
     chain_of : (other : TaskId) → task.0 ≡ other.0 → IsChainAt program next t (thread_after e (outcomes.Next task) state x) other.0
@@ -135,17 +141,17 @@ next_at program taken next t x e task state left outs more clock h serves clear 
 -- a thread after the end of a task of it
 pub after_at : (program : Program) (taken next : ℕ → ℕ) (t : ℕ) (x : ThreadModel) (e : Event) (outcome : Outcome) (state : List ℕ) (left outs more clock : ℕ) →
     IsSoundAt program taken t x left outs clock → IsServedBy program next t x.held e → x.finished ≡ false → length state ≡ (thread_def program t).state →
-    IsRightOutcome program t outcome → more ≤ (thread_def program t).log → IsSoundAt program next t (thread_after e outcome state x) left more clock
-after_at program taken next t x e (outcomes.Next task) state left outs more clock h serves clear size right fits =
-    next_at program taken next t x e task state left outs more clock h serves clear size right fits
-after_at program taken next t x e outcomes.Done state left outs more clock h serves clear size right fits =
-    over_at program taken next t x e state (x.served + 1) x.trapped x.expired left outs more clock h serves clear size fits
-after_at program taken next t x e (outcomes.Trap code) state left outs more clock h serves clear size right fits =
-    over_at program taken next t x e x.state x.served (x.trapped + 1) x.expired left outs more clock h serves clear h.size fits
+    HaveBits state → IsRightOutcome program t outcome → more ≤ (thread_def program t).log → IsSoundAt program next t (thread_after e outcome state x) left more clock
+after_at program taken next t x e (outcomes.Next task) state left outs more clock h serves clear size values right fits =
+    next_at program taken next t x e task state left outs more clock h serves clear size values right fits
+after_at program taken next t x e outcomes.Done state left outs more clock h serves clear size values right fits =
+    over_at program taken next t x e state (x.served + 1) x.trapped x.expired left outs more clock h serves clear size values fits
+after_at program taken next t x e (outcomes.Trap code) state left outs more clock h serves clear size values right fits =
+    over_at program taken next t x e x.state x.served (x.trapped + 1) x.expired left outs more clock h serves clear h.size h.values fits
 
 -- a thread whose chain expired
 pub expired_at : (program : Program) (taken : ℕ → ℕ) (t : ℕ) (x : ThreadModel) (e : Event) (left outs clock : ℕ) →
     IsSoundAt program taken t x left outs clock → IsServedBy program taken t x.held e → x.finished ≡ false →
     IsSoundAt program taken t (expired_after e x) left outs clock
 expired_at program taken t x e left outs clock h serves clear =
-    over_at program taken taken t x e x.state x.served x.trapped (x.expired + 1) left outs outs clock h serves clear h.size h.outputs
+    over_at program taken taken t x e x.state x.served x.trapped (x.expired + 1) left outs outs clock h serves clear h.size h.values h.outputs

@@ -14,8 +14,10 @@ use Rattle.never_cut.specs.declared.model.Model.{Model}
 use Rattle.never_cut.specs.Outputs.{stamped}
 use Rattle.never_cut.specs.Entries.{Readings, Legal, effect}
 use Rattle.never_cut.specs.Journal.{after, IsLegal}
-use Rattle.never_cut.specs.Laws.{committing, commits_in, IsStamped, HasStamps, StampsByCommits}
+use Rattle.never_cut.specs.Laws.{committing, commits_in, IsStamped, StampsByCommits}
+use Rattle.never_cut.specs.Sound.{HasStamps}
 use Rattle.never_cut.proofs.Commits.{committed-outputs, outs_of, serves}
+use Rattle.never_cut.proofs.Outputs.{more_stamps}
 
 get-append : {X : Type 0} (xs ys : List X) (n : ℕ) (x : X) → slice_get xs n ≡ Some x → slice_get (xs ++ ys) n ≡ Some x
 get-append [] ys n x is = absurd (let clash : None ≡ Some x = is in cc)
@@ -32,8 +34,7 @@ record AreNumbered (first : Model) (commits : List ThreadId) (m : Model) : Type 
   pub made : List Output
   pub outputs : m.outputs ≡ first.outputs ++ made
   pub each : All (IsStamped first.commits commits) made
-  pub below : All (λ (o : Output). o.stamp ≤ m.commits) m.outputs
-  pub ordered : IsNonDecreasingBy (λ (o : Output). o.stamp) m.outputs
+  pub stamps : HasStamps m.commits m.outputs
 
 more_numbered : (earlier : ℕ) (commits more : List ThreadId) (outputs : List Output) → All (IsStamped earlier commits) outputs → All (IsStamped earlier (commits ++ more)) outputs
 more_numbered earlier commits more outputs each k d lt =
@@ -46,27 +47,6 @@ stamped_numbered earlier commits t [] = All-nil (IsStamped earlier (commits ++ t
 stamped_numbered earlier commits t (v ∷ outs) =
     All-cons (IsStamped earlier (commits ++ t ∷ [])) (record { stamp = earlier + length commits + 1; thread = t; value = v }) (stamped (earlier + length commits + 1) t.0 outs)
     (record { before = length commits; number = refl; own = get-last commits t }) (stamped_numbered earlier commits t outs)
-
-same_stamp : (stamp t : ℕ) (outs : List ℕ) → All (λ (o : Output). o.stamp ≡ stamp) (stamped stamp t outs)
-same_stamp stamp t [] = All-nil (λ (o : Output). o.stamp ≡ stamp)
-same_stamp stamp t (v ∷ outs) =
-    All-cons (λ (o : Output). o.stamp ≡ stamp) (record { stamp = stamp; thread = record { 0 = t }; value = v }) (stamped stamp t outs) refl (same_stamp stamp t outs)
-
--- numbers that don't fall, with larger ones behind them that are all the same
-ordered-append : {X : Type 0} (n : X → ℕ) (xs ys : List X) (most : ℕ) → IsNonDecreasingBy n xs → All (λ x. n x ≤ most) xs → All (λ y. n y ≡ most) ys →
-    IsNonDecreasingBy n (xs ++ ys)
-ordered-append n xs ys most ordered below same i j d le lt =
-    elim (cases_lt j (length xs)) [
-      | inl left ↦ rw (get_or_append_left xs ys d i (omega arith), get_or_append_left xs ys d j left) (ordered i j d le left)
-      | inr past ↦
-          let last : n (get_or (xs ++ ys) j d) ≡ most = ap n (get_or-append_right xs ys (length xs) j d refl past) ∙ same (j - length xs) d (omega (arith, length-append xs ys)) in
-          elim (cases_lt i (length xs)) [
-            | inl left ↦ let first = below i d left in let e = ap n (get_or_append_left xs ys d i left) in omega (arith, first, e, last)
-            | inr also ↦
-                let first : n (get_or (xs ++ ys) i d) ≡ most = ap n (get_or-append_right xs ys (length xs) i d refl also) ∙ same (i - length xs) d (omega (arith, length-append xs ys)) in
-                omega (arith, first, last)
-          ]
-    ]
 
 commit_numbered : (program : Program) (readings : Readings) (first : Model) (commits : List ThreadId) (m : Model) (t : ThreadId) → AreNumbered first commits m →
     Legal program readings m (Commit t) → AreNumbered first (commits ++ t ∷ []) (effect program readings m (Commit t))
@@ -83,12 +63,8 @@ commit_numbered program readings first commits m t h legal =
       made = h.made ++ new;
       outputs = is ∙ (ap (λ l. l ++ new) h.outputs ∙ append_assoc first.outputs h.made new);
       each = All-append (IsStamped first.commits (commits ++ t ∷ [])) h.made new (more_numbered first.commits commits (t ∷ []) h.made h.each) (stamped_numbered first.commits commits t outs);
-      below = subst (All (λ (o : Output). o.stamp ≤ (effect program readings m (Commit t)).commits)) (sym is)
-          (All-append (λ (o : Output). o.stamp ≤ (effect program readings m (Commit t)).commits) m.outputs new
-          (λ k d lt. let o = h.below k d lt in omega (arith, o, after_is))
-          (λ k d lt. let o = same_stamp stamp t.0 outs k d lt in omega (arith, o, after_is, h.count)));
-      ordered = subst (IsNonDecreasingBy (λ (o : Output). o.stamp)) (sym is)
-          (ordered-append (λ (o : Output). o.stamp) m.outputs new stamp h.ordered (λ k d lt. let o = h.below k d lt in omega (arith, o, h.count)) (same_stamp stamp t.0 outs));
+      stamps = subst (λ (z : ℕ × List Output). HasStamps z.0 z.1) (λ k. (sym after_is k, sym (ap (λ (next : Model). next.outputs) s.makes ∙ committed-outputs program t.0 s.event s.scan.time m) k))
+          (more_stamps m.commits t.0 m.outputs outs h.stamps);
     }
 
 same_outputs : (first : Model) (commits : List ThreadId) (m next : Model) → next.outputs ≡ m.outputs → next.commits ≡ m.commits → AreNumbered first commits m → AreNumbered first (commits ++ []) next
@@ -99,8 +75,7 @@ same_outputs first commits m next outputs count h =
       made = h.made;
       outputs = outputs ∙ h.outputs;
       each = h.each;
-      below = subst (λ (z : ℕ × List Output). All (λ (o : Output). o.stamp ≤ z.0) z.1) (sym (λ k. (count k, outputs k))) h.below;
-      ordered = subst (IsNonDecreasingBy (λ (o : Output). o.stamp)) (sym outputs) h.ordered;
+      stamps = subst (λ (z : ℕ × List Output). HasStamps z.0 z.1) (sym (λ k. (count k, outputs k))) h.stamps;
     })
 
 numbered_step : (program : Program) (readings : Readings) (first : Model) (commits : List ThreadId) (m : Model) (e : Entry) → AreNumbered first commits m → Legal program readings m e →
@@ -121,7 +96,7 @@ numbered_after program readings first commits m (e ∷ entries) h legal =
     subst (λ c. AreNumbered first c (after program readings (effect program readings m e) entries)) (append_assoc commits (committing e) (commits_in entries))
     (numbered_after program readings first (commits ++ committing e) (effect program readings m e) entries (numbered_step program readings first commits m e h legal.0) legal.1)
 
-numbered_first : (program : Program) (readings : Readings) (first : Model) (journal : List Entry) → HasStamps first → IsLegal program readings first journal →
+numbered_first : (program : Program) (readings : Readings) (first : Model) (journal : List Entry) → HasStamps first.commits first.outputs → IsLegal program readings first journal →
     AreNumbered first (commits_in journal) (after program readings first journal)
 numbered_first program readings first journal stamps legal =
     numbered_after program readings first [] first journal
@@ -130,12 +105,11 @@ numbered_first program readings first journal stamps legal =
       made = [];
       outputs = sym (append-nil first.outputs);
       each = All-nil (IsStamped first.commits []);
-      below = stamps.below;
-      ordered = stamps.ordered;
+      stamps = stamps;
     }) legal
 
-pub stamps_by_commits : (program : Program) (readings : Readings) (first : Model) (journal : List Entry) → HasStamps first → IsLegal program readings first journal →
+pub stamps_by_commits : (program : Program) (readings : Readings) (first : Model) (journal : List Entry) → HasStamps first.commits first.outputs → IsLegal program readings first journal →
     StampsByCommits program readings first journal
 stamps_by_commits program readings first journal stamps legal =
     let h = numbered_first program readings first journal stamps legal in
-    record { commits = h.count; made = h.made; outputs = h.outputs; each = h.each; ordered = h.ordered }
+    record { commits = h.count; made = h.made; outputs = h.outputs; each = h.each; ordered = h.stamps.ordered }

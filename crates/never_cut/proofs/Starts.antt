@@ -8,7 +8,6 @@ use Rattle.std.proofs.lemmas.List.Elements.{All-nil, All-cons}
 use Rattle.ink_base.specs.declared.event.Event.{Event}
 use Rattle.ink_base.specs.declared.event.Origin.{Origin}
 use Rattle.ink_base.specs.declared.event.Origin.TheVariants as origins
-use Rattle.ink_base.specs.declared.output.Output.{Output}
 use Rattle.ink_base.specs.declared.entry.Entry.{Entry}
 use Rattle.ink_base.specs.declared.entry.Entry.TheVariants.{Push, Refuse, Skip, Tick, Scan, Look, Commit, Release}
 use Rattle.task_isa.specs.declared.program.Program.{Program}
@@ -22,12 +21,13 @@ use Rattle.never_cut.specs.Entries.{Readings, readings_of, Legal, effect, fed_by
 use Rattle.never_cut.specs.Journal.{after, IsLegal}
 use Rattle.never_cut.specs.Sound.{IsSound, IsSoundSource, IsQueued}
 use Rattle.never_cut.specs.Start.{CanStart}
+use Rattle.never_cut.specs.Reached.{EveryStateStarts}
 use Rattle.push_core.specs.Queue.{event_at}
 use Rattle.never_cut.specs.Within.{AreReadings, HasRoom, IsWithinThread, IsWithinSource, Lasts, LastsThread, is_scanning}
 use Rattle.never_cut.proofs.Commits.{commit-sources}
 use Rattle.never_cut.proofs.Lasting.{lasts_step, open_lasts}
 use Rattle.never_cut.proofs.SoundSources.{sources_with, source_made, sources_same}
-use Rattle.never_cut.proofs.SoundStates.{open_sound}
+use Rattle.never_cut.proofs.SoundStates.{open_sound, sound_after}
 use Rattle.never_cut.proofs.Steps.{stays_within}
 
 -- the sources of a state
@@ -167,11 +167,18 @@ starts program readings first few h = record { room = room_at program readings (
 pub open_starts : (program : Program) (readings : Readings) → IsAccepted program → ((j : ℕ) → length (readings_of readings j) ≤ 65535) → CanStart program readings (open_model program)
 open_starts program readings accepted few = record {
   sound = open_sound program readings accepted few;
-  stamps = record { below = All-nil (λ (o : Output). o.stamp ≤ 0); ordered = λ i j d le lt. absurd (omega arith) };
   counts = open_lasts program (2 ^ 32 - 1) (omega arith);
 }
 
--- and after every legal journal from there, of no more entries than a number of 32 bits counts, there is room for one more
+-- where the counts have room for a legal journal and one more replay, that can begin at the state after it
+pub starts_after : EveryStateStarts
+starts_after program readings first journal accepted short sound lasts legal = record {
+  sound = sound_after program readings first journal accepted short sound legal;
+  counts = (goes_on_after program readings (2 ^ 32 - 1) first journal accepted short.few
+      (record { room = room_at program readings (2 ^ 32 - 1 + length journal) first short.few sound lasts; lasts = lasts; sources = sound.sources }) legal).lasts;
+}
+
+-- and after every legal journal from a state at which a run can begin, of no more entries than a number of 32 bits counts, there is room for one more
 pub has_room_after : (program : Program) (readings : Readings) (first : Model) (journal : List Entry) → IsAccepted program → AreReadings program readings → CanStart program readings first →
     IsLegal program readings first journal → length journal < 2 ^ 32 → HasRoom program (after program readings first journal)
 has_room_after program readings first journal accepted are start legal short =

@@ -1,9 +1,11 @@
--- Words that stand for a sound state, and keep what an image promises beside, are an image.
-use Rattle.std.proofs.Common.{◌≡◌, ◌⊎◌, inl, inr, ℕ, ◌+◌, ◌-◌, ◌%◌, ◌^◌, ◌<◌, ◌≤◌, Bool, true, false, List, length, take, get_or, Option, Some, None, refl, sym, ap, ◌∙◌, subst, arith}
-use Rattle.std.specs.Prelude.{if◌then◌else◌, slice_index}
+-- Words that stand for a sound state, and in which the sources keep their numbers, are an image.
+use Rattle.std.proofs.Common.{◌≡◌, ◌⊎◌, inl, inr, ℕ, ◌+◌, ◌-◌, ◌%◌, ◌^◌, ◌<◌, ◌≤◌, ◌==◌, Bool, true, false, List, length, take, get_or, Option, Some, None, refl, sym, ap, ◌∙◌, subst, arith}
+use Rattle.std.specs.Prelude.{if◌then◌else◌, slice_index, All}
 use Rattle.std.specs.Option.{ForSome}
-use Rattle.std.proofs.lemmas.Bool.{cases_lt, le-ltb}
+use Rattle.std.proofs.lemmas.Bool.{cases_Bool, cases_lt, eqb-true, le-ltb}
 use Rattle.std.proofs.lemmas.List.{get_or_past, get_or-map}
+use Rattle.std.proofs.lemmas.List.Elements.{All-filter, filter_passes}
+use Rattle.std.proofs.lemmas.List.Kept.{IsNonDecreasingBy-filter}
 use Rattle.ink_base.specs.declared.ids.TaskId.{TaskId}
 use Rattle.ink_base.specs.declared.event.Event.{Event}
 use Rattle.ink_base.specs.declared.event.Origin.{Origin}
@@ -29,8 +31,8 @@ use Rattle.never_cut.specs.Sound.{IsQueued, IsServed, IsChain, IsSound}
 use Rattle.never_cut.specs.Within.{Lasts}
 use Rattle.never_cut.specs.ReadOff.{told_held, told_queue, told_source, is_one_more}
 use Rattle.never_cut.specs.Image.{HasChain, IsChainOrigin, IsTakenLast, IsChainValue, IsBlockWord, IsPipeRight, stamp_at, IsLogWord, IsServedFirst, IsQueueRight, own_events, held_for, IsSourceRight, taken_of, written_of}
-use Rattle.never_cut.specs.Images.{KeepsImage, EveryStateIsImage}
-use Rattle.never_cut.proofs.Blocks.{running_word, first_word, outputs_word, event_words, taken_count, written_count, written_at, taken_at, due_at, period_at, state_at, unused_at}
+use Rattle.never_cut.specs.Images.{KeepTheirNumbers, EveryStateIsImage}
+use Rattle.never_cut.proofs.Blocks.{stamp_word, running_word, first_word, outputs_word, event_words, taken_count, written_count, written_at, taken_at, due_at, period_at, state_at, unused_at}
 use Rattle.never_cut.proofs.ReadSources.{counted, more_found, more_is}
 use Rattle.never_cut.proofs.ReadStates.{own_bits}
 use Rattle.never_cut.proofs.ToldQueues.{is_readable, queue_told}
@@ -41,7 +43,7 @@ chosen_below true v n lt some = lt
 chosen_below false v n lt some = some
 
 module _ (program : Program) (readings : Readings) (words : Memory) (m : Model) (accepted : IsAccepted program) (sound : IsSound program readings m) (lasts : Lasts 0 m)
-    (stands : Stands words program m) (keeps : KeepsImage program words m) where
+    (stands : Stands words program m) (numbers : KeepTheirNumbers program words m) where
   module _ (t : ℕ) (known : t < length program.threads) where
     told : told_queue program words t ≡ queue_of (thread_of m t)
     told = queue_told program readings words m accepted sound stands t known
@@ -140,7 +142,7 @@ module _ (program : Program) (readings : Readings) (words : Memory) (m : Model) 
       foreign_due = λ j lt _ foreign. due_is j lt ∙ ap (λ (b : Bool). if b then due_word (timer_of m j).due else 0) foreign;
       foreign_period = λ j lt _ foreign. period_is j lt ∙ ap (λ (b : Bool). if b then (timer_of m j).period else 0) foreign;
       unused = λ le lt. block w ∙ unused_at (saved program m t) _ _ _ w le lt;
-      state = λ le. let small = keeps.states t (w - header.words) known in omega (arith, state_is w le, small);
+      state = λ le. let small = (sound.threads t known).values (w - header.words) in omega (arith, state_is w le, small);
       rest = λ le.
           let size = sound.shape.states t known in
           state_is w (omega arith) ∙ get_or_past (thread_of m t).state (w - header.words) 0 (omega (arith, size));
@@ -173,28 +175,50 @@ module _ (program : Program) (readings : Readings) (words : Memory) (m : Model) 
         let count = outputs_word program words m t known stands.private in
         let here : n < length (outputs_of m t) = omega (arith, count, lt) in
         let d : Output = record { stamp = 0; thread = record { 0 = 0 }; value = 0 } in
-        let own = keeps.reached t known n d here in
+        let is = stamp_is t known n here in
         record {
-          least = let is = stamp_is t known n here in omega (arith, is, own.0);
-          most = let is = stamp_is t known n here in omega (arith, is, own.1);
+          least = let least = (of_thread_all (λ (o : Output). (1 ≤ o.stamp) × (o.stamp ≤ m.commits)) t sound.stamps.made n d here).0 in omega (arith, is, least);
+          most =
+              let reached = (stands.private.threads t known).reached n d here in
+              let stamp = stamp_word program words m t known stands.private in
+              omega (arith, is, stamp, reached);
           ordered = λ k next.
-              let le = keeps.ordered t known k n d (omega arith) here in
-              let first = stamp_is t known k (omega arith) in let second = stamp_is t known n here in omega (arith, first, second, le);
+              let le = IsNonDecreasingBy-filter (λ (o : Output). o.stamp) (λ (o : Output). o.thread.0 == t) m.outputs sound.stamps.ordered k n d (omega arith) here in
+              let first = stamp_is t known k (omega arith) in omega (arith, first, is, le);
           own = λ u k less there same.
               let other : u < length program.threads = omega arith in
               let size = outputs_word program words m u other stands.private in
               let at : k < length (outputs_of m u) = omega (arith, size, there) in
-              keeps.apart t u known less n d here k d at (sym (stamp_is u other k at) ∙ (same ∙ stamp_is t known n here));
+              let agree = of_thread_all (λ (o : Output). All (λ (x : Output). x.stamp ≡ o.stamp → x.thread.0 ≡ o.thread.0) m.outputs) t sound.stamps.own n d here in
+              let one = of_thread_all (λ (x : Output). x.stamp ≡ (get_or (outputs_of m t) n d).stamp → x.thread.0 ≡ (get_or (outputs_of m t) n d).thread.0) u agree k d at
+              (sym (stamp_is u other k at) ∙ (same ∙ is)) in
+              let mine = thread_is t n d here in
+              let its = thread_is u k d at in
+              omega (arith, one, mine, its, less);
         }
       where
+        of_thread_all : (P : Output → Type 0) (u : ℕ) → All P m.outputs → All P (outputs_of m u)
+        of_thread_all P u all = All-filter (λ (o : Output). o.thread.0 == u) P m.outputs all
+
+        thread_is : (u k : ℕ) (d : Output) → k < length (outputs_of m u) → (get_or (outputs_of m u) k d).thread.0 ≡ u
+        thread_is u k d lt = eqb-true _ _ (filter_passes (λ (o : Output). o.thread.0 == u) m.outputs k d lt)
+
         stamp_is : (u : ℕ) → u < length program.threads → (k : ℕ) → k < length (outputs_of m u) →
             stamp_at words u k ≡ (get_or (outputs_of m u) k (record { stamp = 0; thread = record { 0 = 0 }; value = 0 })).stamp
         stamp_is u there k lt =
             let d : Output = record { stamp = 0; thread = record { 0 = 0 }; value = 0 } in
             let o : Output = get_or (outputs_of m u) k d in
             let word : words (Log u k) ≡ output_word o = (stands.private.threads u there).log k lt ∙ get_or-map output_word (outputs_of m u) k d 0 lt in
-            let small : o.value < 2 ^ 32 = keeps.values u there k d lt in
+            let small : o.value < 2 ^ 32 = of_thread_all (λ (x : Output). x.value < 2 ^ 32) u sound.values k d lt in
             omega (arith, word, small)
+
+    -- no earlier thread has a finished event beside this one's
+    unfinished_before : (u : ℕ) → u < t → (thread_of m t).finished ≡ true → (thread_of m u).finished ≡ false
+    unfinished_before u less mine =
+        elim (cases_Bool (thread_of m u).finished) [
+          | inl its ↦ absurd (let same = sound.one t u known (omega arith) mine its in omega (arith, same, less))
+          | inr none ↦ none
+        ]
 
     queue_right : IsQueueRight program words t
     queue_right =
@@ -210,7 +234,7 @@ module _ (program : Program) (readings : Readings) (words : Memory) (m : Model) 
           only = λ done u less.
               let other : u < length program.threads = omega arith in
               let mine : (thread_of m t).finished ≡ true = sym (ap (λ (q : Queue). q.finished) told) ∙ done in
-              ap (λ (q : Queue). q.finished) (queue_told program readings words m accepted sound stands u other) ∙ keeps.only t u known less mine;
+              ap (λ (q : Queue). q.finished) (queue_told program readings words m accepted sound stands u other) ∙ unfinished_before u less mine;
           idle = λ done.
               let mine : (thread_of m t).finished ≡ true = sym (ap (λ (q : Queue). q.finished) told) ∙ done in
               running_word program words m t known stands.private ∙ ap next_word ((sound.threads t known).finished mine).1;
@@ -263,7 +287,7 @@ module _ (program : Program) (readings : Readings) (words : Memory) (m : Model) 
     source_right : IsSourceRight program words i
     source_right =
         let same = numbers_told (is_one_more program words i) refl in
-        let kept = keeps.numbers i known in
+        let kept = numbers i known in
         let back = counted i (thread_of m (source_thread program i)).held kept.gone (source_of m i).accepted kept.numbered in
         let held_is : held_for program words i ≡ (thread_of m (source_thread program i)).held = ap (λ (q : Queue). q.held) queue_is in
         let count : own_events i (held_for program words i) ≡ own_events i (thread_of m (source_thread program i)).held = ap (own_events i) held_is in
@@ -282,12 +306,12 @@ module _ (program : Program) (readings : Readings) (words : Memory) (m : Model) 
         }
 
 pub every_state : EveryStateIsImage
-every_state program readings words m accepted sound lasts stands keeps = record {
+every_state program readings words m accepted sound lasts stands numbers = record {
   code = stands.private.code;
-  commit_words = keeps.commit_words;
-  blocks = λ t w known lt. block_right program readings words m accepted sound lasts stands keeps t known w;
-  pipes = pipe_right program readings words m accepted sound lasts stands keeps;
-  logs = λ t n known lt. log_right program readings words m accepted sound lasts stands keeps t known n lt;
-  queues = λ t known. queue_right program readings words m accepted sound lasts stands keeps t known;
-  sources = λ i known. source_right program readings words m accepted sound lasts stands keeps i known;
+  commit_words = λ t known. (stands.private.threads t known).pages;
+  blocks = λ t w known lt. block_right program readings words m accepted sound lasts stands numbers t known w;
+  pipes = pipe_right program readings words m accepted sound lasts stands numbers;
+  logs = λ t n known lt. log_right program readings words m accepted sound lasts stands numbers t known n lt;
+  queues = λ t known. queue_right program readings words m accepted sound lasts stands numbers t known;
+  sources = λ i known. source_right program readings words m accepted sound lasts stands numbers i known;
 }

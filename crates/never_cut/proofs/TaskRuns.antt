@@ -1,17 +1,22 @@
--- What a task of an accepted program leaves behind: it goes on with a task of its thread, ends its service or traps; it keeps the length of its state,
--- sends and puts out no more than there is room for, and only to pipes that its thread writes, and sets timers of its thread.
-use Rattle.std.proofs.Common.{◌≡◌, ℕ, zero, suc, ◌+◌, ◌<◌, ◌≤◌, ◌==◌, ◌/◌, ◌%◌, ◌^◌, Bool, true, false, cond, List, [], ◌∷◌, ◌++◌, length, Option, Some, None, refl, sym, ap, ◌∙◌, arith, subst, inl, inr, length-append, length-set}
+-- What a task of an accepted program leaves behind: it goes on with a task of its thread, ends its service or traps; it keeps the length of its state, sends
+-- and puts out no more than there is room for, and only to pipes that its thread writes, and sets timers of its thread. Numbers keep 32 bits.
+use Rattle.std.proofs.Common.{◌≡◌, ℕ, zero, suc, ◌+◌, ◌<◌, ◌≤◌, ◌-◌, ◌*◌, ◌==◌, ◌/◌, ◌%◌, ◌^◌, Bool, true, false, cond, List, [], ◌∷◌, ◌++◌, length, Option, Some, None, refl, sym, ap, ◌∙◌, arith, subst, inl, inr, length-append, length-set}
 use Rattle.std.specs.Prelude.{nat_lt, All, slice_index}
 use Rattle.std.specs.Option.{ForSome}
 use Rattle.std.proofs.lemmas.Bool.{ltb-true, cases_eq, cases_lt, ne_eqb}
-use Rattle.std.proofs.lemmas.Nat.{mod_below}
+use Rattle.std.specs.Int.Bits.{and_lt}
+use Rattle.std.proofs.Math.Nat.{div-le_self, mod-le}
+use Rattle.std.proofs.lemmas.Nat.{mod_below, or_lt, xor_lt}
 use Rattle.std.proofs.lemmas.List.{get_or_past}
 use Rattle.std.proofs.lemmas.List.Sums.{sum_by-append}
 use Rattle.std.proofs.lemmas.List.Elements.{All-nil, All-cons, All-append}
+use Rattle.ink_base.specs.declared.event.Event.{Event}
+use Rattle.ink_base.specs.declared.event.Origin.{Origin}
+use Rattle.ink_base.specs.declared.event.Origin.TheVariants as origins
 use Rattle.task_isa.specs.declared.act.Act.{Act}
 use Rattle.task_isa.specs.declared.act.Act.TheVariants.{Sets, Goes, Loads, Saves, Puts, Sends, Arms, Stops, Continues, Ends, Traps}
 use Rattle.task_isa.specs.declared.instr.Instr.{Instr}
-use Rattle.task_isa.specs.declared.instr.Instr.TheVariants.{Divu, Remu, Send, Arm, Stop, Next, Done}
+use Rattle.task_isa.specs.declared.instr.Instr.TheVariants.{Li, Mov, Add, Sub, Mul, And, Or, Xor, Shl, Shr, Divu, Remu, Ltu, Eq, Ev, Kind, Num, Now, St, Out, Send, Arm, Stop, Next, Done}
 use Rattle.task_isa.specs.declared.outcome.Outcome.{Outcome}
 use Rattle.task_isa.specs.declared.outcome.Outcome.TheVariants as outcomes
 use Rattle.task_isa.specs.declared.outcome.TrapCode.TheVariants.{Divisor}
@@ -21,10 +26,12 @@ use Rattle.task_isa.specs.declared.sent.Sent.{Sent}
 use Rattle.task_isa.specs.declared.timer_set.TimerSet.{TimerSet}
 use Rattle.task_isa.specs.declared.task_end.TaskEnd.{TaskEnd}
 use Rattle.task_isa.specs.declared.task_start.TaskStart.{TaskStart}
-use Rattle.task_isa.specs.Acts.{Given, Cpu, reg, act_of, divided}
+use Rattle.task_isa.specs.Acts.{Given, Cpu, reg, act_of, divided, bit_of, kind_of, number_of}
+use Rattle.task_isa.specs.Code.{IsInstr}
 use Rattle.task_isa.specs.Meaning.{Config, Effects, Room, Stepped, GoesOn, IsOver, HasTrapped, RunEnd, Ended, Trapped, execute, instr_at, run, has_room, sent_to, task_end, task_of, run_of, given_of, room_of, first_config, no_effects}
 use Rattle.prog_check.specs.Lookup.{pipe_def, timer_def, task_def}
 use Rattle.prog_check.specs.Accepted.{IsRightInstr, IsAccepted}
+use Rattle.never_cut.proofs.Values.{HaveBits, zeros_below, set_below, last_below}
 
 -- an item within its bits, for a pipe that the thread writes
 pub record IsRightItem (program : Program) (t : ℕ) (s : Sent) : Type 0 where
@@ -47,38 +54,80 @@ IsRightOutcome program t _ = Unit {0}
 -- the effects of a task of thread t fit the room that there was
 pub record IsFitting (program : Program) (t size : ℕ) (room : Room) (e : Effects) : Type 0 where
   pub state : length e.state ≡ size
+  pub values : HaveBits e.state
   pub outs : length e.outs ≤ room.log
+  pub words : HaveBits e.outs
   pub sent : (q : ℕ) → sent_to q e.sends ≤ slice_index room.pipes q
   pub sends : All (IsRightItem program t) e.sends
   pub timers : All (IsRightSetting program t) e.timers
 
--- what one instruction does names pipes, timers and tasks of the thread
+-- the event's value and the number of its source, pipe or timer have 32 bits
+abbrev pub HasEventBits : Event → Type 0
+HasEventBits e = (e.value < 2 ^ 32) × (number_of e.origin < 2 ^ 32)
+
+-- what one instruction does names pipes, timers and tasks of the thread, and its numbers have 32 bits
 abbrev IsRightAct : Program → ℕ → Act → Type 0
+IsRightAct program t (Sets a v) = v < 2 ^ 32
+IsRightAct program t (Saves n v) = v < 2 ^ 32
+IsRightAct program t (Puts v) = v < 2 ^ 32
 IsRightAct program t (Sends q a v) = IsRightItem program t (record { pipe = record { 0 = q }; value = v })
 IsRightAct program t (Arms j delay period) = (j < length program.timers) × ((timer_def program j).thread.0 ≡ t) × (delay < 2 ^ 32) × (period < 2 ^ 32)
 IsRightAct program t (Stops j) = (j < length program.timers) × ((timer_def program j).thread.0 ≡ t)
 IsRightAct program t (Continues x) = IsRightOutcome program t (outcomes.Next (record { 0 = x }))
 IsRightAct program t _ = Unit {0}
 
-divided_right : (program : Program) (t n v a : ℕ) → IsRightAct program t (divided n (Sets a v))
-divided_right program t n v a = by_test (n == 0)
+divided_right : (program : Program) (t n v a : ℕ) → v < 2 ^ 32 → IsRightAct program t (divided n (Sets a v))
+divided_right program t n v a small = by_test (n == 0)
   where
     by_test : (b : Bool) → IsRightAct program t (cond b (Traps Divisor) (Sets a v))
     by_test true = tt
-    by_test false = tt
+    by_test false = small
 
-act_right : (program : Program) (task : Task) (i : Instr) (given : Given) (cpu : Cpu) → IsRightInstr program task i → IsRightAct program task.thread.0 (act_of i given cpu)
+bit_small : (b : Bool) → bit_of b < 2 ^ 32
+bit_small true = omega arith
+bit_small false = omega arith
+
+kind_small : (o : Origin) → kind_of o < 2 ^ 32
+kind_small (origins.Source source count) = omega arith
+kind_small (origins.Pipe pipe item) = omega arith
+kind_small (origins.Timer timer deadline) = omega arith
+
+-- a number that was divided
+quotient_small : (a b : ℕ) → a < 2 ^ 32 → a / b < 2 ^ 32
+quotient_small a b small = let le : a / b ≤ a = div-le_self a b in omega arith
+
+act_right : (program : Program) (task : Task) (i : Instr) (given : Given) (cpu : Cpu) → IsRightInstr program task i → IsInstr i → HasEventBits given.event → HaveBits cpu.registers →
+    IsRightAct program task.thread.0 (act_of i given cpu)
 unfolding act_of
-act_right program task (Divu a b c) given cpu right = divided_right program task.thread.0 (reg cpu c) (reg cpu b / reg cpu c) a
-act_right program task (Remu a b c) given cpu right = divided_right program task.thread.0 (reg cpu c) (reg cpu b % reg cpu c) a
-act_right program task (Send i a b) given cpu right = record { known = right.0; own = right.1; value = mod_below (reg cpu b) (2 ^ 32) (omega arith) }
-act_right program task (Arm i a b) given cpu right = (right.0, right.1, mod_below (reg cpu a) (2 ^ 32) (omega arith), mod_below (reg cpu b) (2 ^ 32) (omega arith))
-act_right program task (Stop i) given cpu right = right
-act_right program task (Next i) given cpu right = right
-act_right program task _ given cpu right = tt
+act_right program task (Li a i) given cpu right fits event bits = fits.i_fits
+act_right program task (Mov a b) given cpu right fits event bits = bits b
+act_right program task (Add a b c) given cpu right fits event bits = mod_below (reg cpu b + reg cpu c) (2 ^ 32) (omega arith)
+act_right program task (Sub a b c) given cpu right fits event bits = mod_below (reg cpu b + 2 ^ 32 - reg cpu c) (2 ^ 32) (omega arith)
+act_right program task (Mul a b c) given cpu right fits event bits = mod_below (reg cpu b * reg cpu c) (2 ^ 32) (omega arith)
+act_right program task (And a b c) given cpu right fits event bits = and_lt 32 (reg cpu b) (reg cpu c) (bits b) (bits c)
+act_right program task (Or a b c) given cpu right fits event bits = or_lt 32 (reg cpu b) (reg cpu c) (bits b) (bits c)
+act_right program task (Xor a b c) given cpu right fits event bits = xor_lt 32 (reg cpu b) (reg cpu c) (bits b) (bits c)
+act_right program task (Shl a b c) given cpu right fits event bits = mod_below (reg cpu b * 2 ^ (reg cpu c % 32)) (2 ^ 32) (omega arith)
+act_right program task (Shr a b c) given cpu right fits event bits = quotient_small (reg cpu b) (2 ^ (reg cpu c % 32)) (bits b)
+act_right program task (Divu a b c) given cpu right fits event bits = divided_right program task.thread.0 (reg cpu c) (reg cpu b / reg cpu c) a (quotient_small (reg cpu b) (reg cpu c) (bits b))
+act_right program task (Remu a b c) given cpu right fits event bits =
+    divided_right program task.thread.0 (reg cpu c) (reg cpu b % reg cpu c) a (let le : reg cpu b % reg cpu c ≤ reg cpu b = mod-le (reg cpu b) (reg cpu c) in let small = bits b in omega arith)
+act_right program task (Ltu a b c) given cpu right fits event bits = bit_small (nat_lt (reg cpu b) (reg cpu c))
+act_right program task (Eq a b c) given cpu right fits event bits = bit_small (reg cpu b == reg cpu c)
+act_right program task (Ev a) given cpu right fits event bits = event.0
+act_right program task (Kind a) given cpu right fits event bits = kind_small given.event.origin
+act_right program task (Num a) given cpu right fits event bits = event.1
+act_right program task (Now a) given cpu right fits event bits = mod_below given.time (2 ^ 32) (omega arith)
+act_right program task (St a b) given cpu right fits event bits = bits a
+act_right program task (Out a) given cpu right fits event bits = bits a
+act_right program task (Send i a b) given cpu right fits event bits = record { known = right.0; own = right.1; value = mod_below (reg cpu b) (2 ^ 32) (omega arith) }
+act_right program task (Arm i a b) given cpu right fits event bits = (right.0, right.1, mod_below (reg cpu a) (2 ^ 32) (omega arith), mod_below (reg cpu b) (2 ^ 32) (omega arith))
+act_right program task (Stop i) given cpu right fits event bits = right
+act_right program task (Next i) given cpu right fits event bits = right
+act_right program task _ given cpu right fits event bits = tt
 
 abbrev StepFits : Program → (t size : ℕ) → Room → Stepped → Type 0
-StepFits program t size room (GoesOn next) = IsFitting program t size room next.effects
+StepFits program t size room (GoesOn next) = IsFitting program t size room next.effects × HaveBits next.cpu.registers
 StepFits program t size room (IsOver outcome) = IsRightOutcome program t outcome
 StepFits program t size room (HasTrapped code) = Unit {0}
 
@@ -114,7 +163,9 @@ with_sent : (program : Program) (t size : ℕ) (room : Room) (e : Effects) (s : 
     IsFitting program t size room (record e { sends = e.sends ++ s ∷ [] })
 with_sent program t size room e s h right free = record {
   state = h.state;
+  values = h.values;
   outs = h.outs;
+  words = h.words;
   sent = one_more room e.sends s h.sent (ltb-true _ _ free);
   sends = All-append (IsRightItem program t) e.sends (s ∷ []) h.sends (All-cons (IsRightItem program t) s [] right (All-nil (IsRightItem program t)));
   timers = h.timers;
@@ -124,7 +175,9 @@ with_setting : (program : Program) (t size : ℕ) (room : Room) (e : Effects) (s
     IsFitting program t size room (record e { timers = e.timers ++ s ∷ [] })
 with_setting program t size room e s h right = record {
   state = h.state;
+  values = h.values;
   outs = h.outs;
+  words = h.words;
   sent = h.sent;
   sends = h.sends;
   timers = All-append (IsRightSetting program t) e.timers (s ∷ []) h.timers (All-cons (IsRightSetting program t) s [] right (All-nil (IsRightSetting program t)));
@@ -148,46 +201,70 @@ stopped_right program t j right = record {
 }
 
 step_fits : (program : Program) (t size : ℕ) (act : Act) (given : Given) (room : Room) (c : Config) → given.time < 2 ^ 47 → IsRightAct program t act →
-    IsFitting program t size room c.effects → StepFits program t size room (execute act given room c)
-step_fits program t size (Sets a v) given room c early right h = h
-step_fits program t size (Goes offset) given room c early right h = h
-step_fits program t size (Loads a n) given room c early right h = where_true program t size room (nat_lt n (length c.effects.state)) _ _ (λ _. h) tt
-step_fits program t size (Saves n v) given room c early right h =
+    IsFitting program t size room c.effects → HaveBits c.cpu.registers → StepFits program t size room (execute act given room c)
+step_fits program t size (Sets a v) given room c early right h bits = (h, set_below c.cpu.registers a v right bits)
+step_fits program t size (Goes offset) given room c early right h bits = (h, bits)
+step_fits program t size (Loads a n) given room c early right h bits =
     where_true program t size room (nat_lt n (length c.effects.state)) _ _
-    (λ _. record { state = length-set c.effects.state n v ∙ h.state; outs = h.outs; sent = h.sent; sends = h.sends; timers = h.timers }) tt
-step_fits program t size (Puts v) given room c early right h =
+    (λ _. (h, set_below c.cpu.registers a (slice_index c.effects.state n % 2 ^ 32) (mod_below (slice_index c.effects.state n) (2 ^ 32) (omega arith)) bits)) tt
+step_fits program t size (Saves n v) given room c early right h bits =
+    where_true program t size room (nat_lt n (length c.effects.state)) _ _
+    (λ _. (
+      record {
+        state = length-set c.effects.state n v ∙ h.state;
+        values = set_below c.effects.state n v right h.values;
+        outs = h.outs;
+        words = h.words;
+        sent = h.sent;
+        sends = h.sends;
+        timers = h.timers;
+      },
+      bits,
+    )) tt
+step_fits program t size (Puts v) given room c early right h bits =
     where_true program t size room (nat_lt (length c.effects.outs) room.log) _ _
-    (λ e. record {
-      state = h.state;
-      outs = let lt : length c.effects.outs < room.log = ltb-true _ _ e in omega (arith, length-append c.effects.outs (v ∷ []));
-      sent = h.sent;
-      sends = h.sends;
-      timers = h.timers;
-    }) tt
-step_fits program t size (Sends q a v) given room c early right h =
-    where_true program t size room (has_room room q c.effects.sends) _ _ (λ free. with_sent program t size room c.effects _ h right free) h
-step_fits program t size (Arms j delay period) given room c early right h =
-    with_setting program t size room c.effects _ h (armed_right program t given.time j delay period early right)
-step_fits program t size (Stops j) given room c early right h = with_setting program t size room c.effects _ h (stopped_right program t j right)
-step_fits program t size (Continues x) given room c early right h = right
-step_fits program t size Ends given room c early right h = tt
-step_fits program t size (Traps code) given room c early right h = tt
+    (λ e. (
+      record {
+        state = h.state;
+        values = h.values;
+        outs = let lt : length c.effects.outs < room.log = ltb-true _ _ e in omega (arith, length-append c.effects.outs (v ∷ []));
+        words = last_below c.effects.outs v right h.words;
+        sent = h.sent;
+        sends = h.sends;
+        timers = h.timers;
+      },
+      bits,
+    )) tt
+step_fits program t size (Sends q a v) given room c early right h bits =
+    where_true program t size room (has_room room q c.effects.sends) _ _ (λ free. (with_sent program t size room c.effects _ h right free, set_below c.cpu.registers a 1 (omega arith) bits))
+    (h, set_below c.cpu.registers a 0 (omega arith) bits)
+step_fits program t size (Arms j delay period) given room c early right h bits =
+    (with_setting program t size room c.effects _ h (armed_right program t given.time j delay period early right), bits)
+step_fits program t size (Stops j) given room c early right h bits = (with_setting program t size room c.effects _ h (stopped_right program t j right), bits)
+step_fits program t size (Continues x) given room c early right h bits = right
+step_fits program t size Ends given room c early right h bits = tt
+step_fits program t size (Traps code) given room c early right h bits = tt
 
 abbrev RunFits : Program → (t size : ℕ) → Room → RunEnd → Type 0
 RunFits program t size room (Ended outcome e left) = IsRightOutcome program t outcome × IsFitting program t size room e
 RunFits program t size room (Trapped code left) = Unit {0}
 
-run_fits : (program : Program) (task : Task) (given : Given) (room : Room) (left size : ℕ) (c : Config) → ((n : ℕ) → IsRightInstr program task (instr_at task.code n)) →
-    given.time < 2 ^ 47 → IsFitting program task.thread.0 size room c.effects → RunFits program task.thread.0 size room (run task.code given room left c)
-run_fits program task given room zero size c right early h = tt
-run_fits program task given room (suc left) size c right early h =
+-- each instruction of a task is right, and its operands fit their bits
+abbrev CodeFits : Program → Task → Type 0
+CodeFits program task = (n : ℕ) → IsRightInstr program task (instr_at task.code n) × IsInstr (instr_at task.code n)
+
+run_fits : (program : Program) (task : Task) (given : Given) (room : Room) (left size : ℕ) (c : Config) → CodeFits program task → HasEventBits given.event → given.time < 2 ^ 47 →
+    IsFitting program task.thread.0 size room c.effects → HaveBits c.cpu.registers → RunFits program task.thread.0 size room (run task.code given room left c)
+run_fits program task given room zero size c right event early h bits = tt
+run_fits program task given room (suc left) size c right event early h bits =
     let i : Instr = instr_at task.code c.cpu.at in
     by_step (execute (act_of i given c.cpu) given room c)
-    (step_fits program task.thread.0 size (act_of i given c.cpu) given room c early (act_right program task i given c.cpu (right c.cpu.at)) h)
-    (λ next k. run_fits program task given room left size next right early k)
+    (step_fits program task.thread.0 size (act_of i given c.cpu) given room c early
+    (act_right program task i given c.cpu (right c.cpu.at).0 (right c.cpu.at).1 event bits) h bits)
+    (λ next k. run_fits program task given room left size next right event early k.0 k.1)
   where
     by_step : (step : Stepped) → StepFits program task.thread.0 size room step →
-        ((next : Config) → IsFitting program task.thread.0 size room next.effects → RunFits program task.thread.0 size room (run task.code given room left next)) →
+        ((next : Config) → IsFitting program task.thread.0 size room next.effects × HaveBits next.cpu.registers → RunFits program task.thread.0 size room (run task.code given room left next)) →
         RunFits program task.thread.0 size room (elim step [ GoesOn next ↦ run task.code given room left next | IsOver outcome ↦ Ended outcome c.effects left | HasTrapped trap ↦ Trapped trap left ])
     by_step (GoesOn next) k more = more next k
     by_step (IsOver outcome) k more = (k, h)
@@ -202,34 +279,38 @@ pub record IsFittingEnd (program : Program) (t size : ℕ) (room : Room) (end : 
   pub outcome : IsRightOutcome program t end.outcome
   pub effects : IsFitting program t size room (effects_of end)
 
-no_effects_fit : (program : Program) (t size : ℕ) (room : Room) (state : List ℕ) → length state ≡ size → IsFitting program t size room (no_effects state)
-no_effects_fit program t size room state same = record {
+no_effects_fit : (program : Program) (t size : ℕ) (room : Room) (state : List ℕ) → length state ≡ size → HaveBits state → IsFitting program t size room (no_effects state)
+no_effects_fit program t size room state same values = record {
   state = same;
+  values = values;
   outs = omega arith;
+  words = λ k. omega arith;
   sent = λ q. omega arith;
   sends = All-nil (IsRightItem program t);
   timers = All-nil (IsRightSetting program t);
 }
 
-end_fits : (program : Program) (t size limit : ℕ) (room : Room) (state : List ℕ) (r : RunEnd) → length state ≡ size → RunFits program t size room r →
+end_fits : (program : Program) (t size limit : ℕ) (room : Room) (state : List ℕ) (r : RunEnd) → length state ≡ size → HaveBits state → RunFits program t size room r →
     IsFittingEnd program t size room (task_end limit state r)
-end_fits program t size limit room state (Ended outcome e left) same h = record { outcome = h.0; effects = h.1 }
-end_fits program t size limit room state (Trapped code left) same h = record { outcome = tt; effects = no_effects_fit program t size room state same }
+end_fits program t size limit room state (Ended outcome e left) same values h = record { outcome = h.0; effects = h.1 }
+end_fits program t size limit room state (Trapped code left) same values h = record { outcome = tt; effects = no_effects_fit program t size room state same values }
 
--- each instruction of a task is right, also those beyond the code
-code_right : (program : Program) (x n : ℕ) → IsAccepted program → x < length program.tasks → IsRightInstr program (task_def program x) (instr_at (task_def program x).code n)
-code_right program x n accepted known =
+-- so it is of each instruction of an accepted program's task, also of those beyond the code
+code_fits : (program : Program) (x : ℕ) → IsAccepted program → x < length program.tasks → CodeFits program (task_def program x)
+code_fits program x accepted known n =
     elim (cases_lt n (length (task_def program x).code)) [
-      | inl less ↦ (accepted.tasks x known).instrs n less
-      | inr past ↦ subst (λ (i : Instr). IsRightInstr program (task_def program x) i) (sym (get_or_past (task_def program x).code n Done past)) tt
+      | inl less ↦ ((accepted.tasks x known).instrs n less, (accepted.tasks x known).fits n less)
+      | inr past ↦ subst (λ (i : Instr). IsRightInstr program (task_def program x) i × IsInstr i) (sym (get_or_past (task_def program x).code n Done past))
+          (tt, record { a_fits = omega arith; b_fits = omega arith; c_fits = omega arith; i_fits = omega arith })
     ]
 
 -- the end of task x from a start
 pub task_fits : (program : Program) (x t size : ℕ) (start : TaskStart) → IsAccepted program → x < length program.tasks → (task_def program x).thread.0 ≡ t → start.time < 2 ^ 47 →
-    length start.state ≡ size → IsFittingEnd program t size (room_of start) (task_of (task_def program x).code (task_def program x).limit start)
-task_fits program x t size start accepted known own early same =
+    HasEventBits start.event → length start.state ≡ size → HaveBits start.state →
+    IsFittingEnd program t size (room_of start) (task_of (task_def program x).code (task_def program x).limit start)
+task_fits program x t size start accepted known own early event same values =
     let task : Task = task_def program x in
     subst (λ u. IsFittingEnd program u size (room_of start) (task_of task.code task.limit start)) own
-    (end_fits program task.thread.0 size task.limit (room_of start) start.state (run_of task.code task.limit (given_of start) (room_of start) start.state) same
-    (run_fits program task (given_of start) (room_of start) task.limit size (first_config start.state) (λ n. code_right program x n accepted known) early
-    (no_effects_fit program task.thread.0 size (room_of start) start.state same)))
+    (end_fits program task.thread.0 size task.limit (room_of start) start.state (run_of task.code task.limit (given_of start) (room_of start) start.state) same values
+    (run_fits program task (given_of start) (room_of start) task.limit size (first_config start.state) (code_fits program x accepted known) event early
+    (no_effects_fit program task.thread.0 size (room_of start) start.state same values) (zeros_below 16)))

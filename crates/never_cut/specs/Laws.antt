@@ -104,11 +104,6 @@ pub record IsStamped (earlier : ℕ) (commits : List ThreadId) (o : Output) : Ty
   pub number : o.stamp ≡ earlier + before + 1
   pub own : slice_get commits before ≡ Some o.thread
 
--- the numbers of the outputs don't fall along them, and are those of commits that were made
-pub record HasStamps (m : Model) : Type 0 where
-  pub below : All (λ (o : Output). o.stamp ≤ m.commits) m.outputs
-  pub ordered : IsNonDecreasingBy (λ (o : Output). o.stamp) m.outputs
-
 -- each output that isn't the first state's has the number of a commit of its thread, and the numbers don't fall along the outputs
 pub record StampsByCommits (program : Program) (readings : Readings) (first : Model) (journal : List Entry) : Type 0 where
   pub commits : first.commits + length (commits_in journal) ≡ (after program readings first journal).commits

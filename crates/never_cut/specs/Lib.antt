@@ -5,11 +5,11 @@ pub mod Commit
 pub mod Entries
 pub mod Journal
 pub mod Stands
+pub mod Finished
 pub mod Sound
 pub mod Within
 pub mod Replaying
 pub mod Replay
-pub mod Finished
 pub mod Laws
 pub mod Start
 pub mod Ranges

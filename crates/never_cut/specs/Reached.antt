@@ -1,5 +1,5 @@
 -- What is known of the states that legal journals reach.
-use Rattle.std.specs.Prelude.{ℕ, ◌^◌, ◌<◌, ◌≤◌, List, length}
+use Rattle.std.specs.Prelude.{ℕ, ◌+◌, ◌-◌, ◌^◌, ◌<◌, ◌≤◌, List, length}
 use Rattle.ink_base.specs.declared.entry.Entry.{Entry}
 use Rattle.task_isa.specs.declared.program.Program.{Program}
 use Rattle.push_core.specs.Table.{greatest_tail}
@@ -11,7 +11,7 @@ use Rattle.never_cut.specs.Entries.{Readings, Legal, effect}
 use Rattle.never_cut.specs.Journal.{after, IsLegal}
 use Rattle.never_cut.specs.Sound.{IsSound}
 use Rattle.never_cut.specs.kept.Actors.{IsOther, Follows}
-use Rattle.never_cut.specs.Within.{AreReadings, AreShort, HasRoom}
+use Rattle.never_cut.specs.Within.{AreReadings, AreShort, HasRoom, Lasts}
 use Rattle.never_cut.specs.Laws.{ReadingsInOrder, EachEventOnce, StatesByCommits, StampsByCommits}
 use Rattle.never_cut.specs.Start.{CanStart}
 
@@ -37,6 +37,12 @@ abbrev pub EveryStateHasRoom : Type 0
 EveryStateHasRoom =
     (program : Program) (readings : Readings) (first : Model) (journal : List Entry) → IsAccepted program → AreReadings program readings → CanStart program readings first →
     IsLegal program readings first journal → length journal < 2 ^ 32 → HasRoom program (after program readings first journal)
+
+-- where the counts have room for a legal journal and for as many entries as 32 bits count behind it, a run can begin at the state after it
+abbrev pub EveryStateStarts : Type 0
+EveryStateStarts =
+    (program : Program) (readings : Readings) (first : Model) (journal : List Entry) → IsAccepted program → AreShort readings → IsSound program readings first →
+    Lasts (2 ^ 32 - 1 + length journal) first → IsLegal program readings first journal → CanStart program readings (after program readings first journal)
 
 -- each reading is settled once and in order; each event of a queue is finished once and in order, or is still held; a thread's state is what its own
 -- commits made of it; each output is stamped with the number of a commit of its thread

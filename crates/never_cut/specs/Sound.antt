@@ -1,8 +1,10 @@
 -- What holds of every state that a legal journal reaches, from the first image or from another state of which it holds.
-use Rattle.std.specs.Prelude.{◌≡◌, ℕ, ◌+◌, ◌%◌, ◌^◌, ◌<◌, ◌≤◌, true, false, length, slice_index, Some, None}
+use Rattle.std.specs.Prelude.{◌≡◌, ℕ, ◌+◌, ◌%◌, ◌^◌, ◌<◌, ◌≤◌, true, false, List, length, slice_index, All, Some, None}
+use Rattle.std.specs.List.Sorted.{IsNonDecreasingBy}
 use Rattle.std.specs.Option.{ForSome}
 use Rattle.ink_base.specs.declared.event.Event.{Event}
 use Rattle.ink_base.specs.declared.event.Origin.TheVariants as origins
+use Rattle.ink_base.specs.declared.output.Output.{Output}
 use Rattle.task_isa.specs.declared.program.Program.{Program}
 use Rattle.push_core.specs.Table.{greatest_tail}
 use Rattle.push_core.specs.Queue as queues
@@ -12,6 +14,7 @@ use Rattle.never_cut.specs.declared.model.Model.{Model}
 use Rattle.never_cut.specs.State.{thread_of, pipe_of, timer_of, source_of, queue_of, source_in}
 use Rattle.never_cut.specs.Commit.{outputs_of}
 use Rattle.never_cut.specs.Entries.{Readings, readings_of, IsCalm}
+use Rattle.never_cut.specs.Finished.{AtMostOneFinished}
 
 -- as many of each part as the program declares
 pub record HasShape (program : Program) (m : Model) : Type 0 where
@@ -60,6 +63,8 @@ pub record IsSoundThread (program : Program) (readings : Readings) (m : Model) (
   pub chain : ForSome (thread_of m t).running (λ task. IsChain program m t task.0)
   pub outputs : length (outputs_of m t) ≤ (thread_def program t).log
   pub first : (thread_of m t).first ≤ m.clock
+  -- the numbers of its state have 32 bits
+  pub values : (k : ℕ) → slice_index (thread_of m t).state k < 2 ^ 32
 
 -- a pipe holds no more items than it has places
 pub record IsSoundPipe (program : Program) (m : Model) (q : ℕ) : Type 0 where
@@ -77,6 +82,12 @@ pub record IsSoundSource (readings : Readings) (m : Model) (i : ℕ) : Type 0 wh
   pub within : (source_of m i).next ≤ length (readings_of readings i)
   pub refused : (source_of m i).refused ≡ true → (source_of m i).next < length (readings_of readings i)
 
+-- the stamps of outputs are numbers of commits that were made, don't fall along them, and are each of one thread
+pub record HasStamps (commits : ℕ) (outputs : List Output) : Type 0 where
+  pub made : All (λ (o : Output). (1 ≤ o.stamp) × (o.stamp ≤ commits)) outputs
+  pub ordered : IsNonDecreasingBy (λ (o : Output). o.stamp) outputs
+  pub own : All (λ (o : Output). All (λ (other : Output). other.stamp ≡ o.stamp → other.thread.0 ≡ o.thread.0) outputs) outputs
+
 -- every part is sound, and a scan goes on as it began
 pub record IsSound (program : Program) (readings : Readings) (m : Model) : Type 0 where
   pub shape : HasShape program m
@@ -90,3 +101,7 @@ pub record IsSound (program : Program) (readings : Readings) (m : Model) : Type 
   pub begun : ForSome m.scan (λ scan. (t : ℕ) → (thread_of m t).first ≤ scan.time)
   -- a scan begins with nothing finished, and a commit ends it
   pub calm : ForSome m.scan (λ scan. IsCalm program m)
+  pub one : AtMostOneFinished program m
+  pub stamps : HasStamps m.commits m.outputs
+  -- what was put out has 32 bits
+  pub values : All (λ (o : Output). o.value < 2 ^ 32) m.outputs

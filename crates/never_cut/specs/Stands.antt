@@ -1,16 +1,17 @@
 -- When the words of a board stand for a state.
-use Rattle.std.specs.Prelude.{◌≡◌, ◌⊎◌, ℕ, ◌+◌, ◌%◌, ◌<◌, ◌≤◌, ◌==◌, ◌&&◌, nat_lt, Bool, if◌then◌else◌, List, ◌∷◌, length, map, slice_index, Option}
+use Rattle.std.specs.Prelude.{◌≡◌, ◌⊎◌, ℕ, ◌+◌, ◌%◌, ◌^◌, ◌<◌, ◌≤◌, ◌==◌, ◌&&◌, nat_lt, Bool, if◌then◌else◌, List, ◌∷◌, length, map, slice_index, All, Option}
 use Rattle.std.specs.Option.{ForSome}
 use Rattle.ink_base.specs.declared.ids.TaskId.{TaskId}
 use Rattle.ink_base.specs.declared.output.Output.{Output}
 use Rattle.task_isa.specs.declared.program.Program.{Program}
 use Rattle.task_isa.specs.Code.{word_of_instr}
-use Rattle.fram_words.specs.Places.{Memory, Code, Log, Ring, Tail, Slot, Ack, Clock, Src}
+use Rattle.fram_words.specs.Places.{Memory, Code, Commit, Log, Ring, Tail, Slot, Ack, Clock, Src}
 use Rattle.fram_words.specs.Header as header
 pub use Rattle.fram_words.specs.Held.{next_word, origin_word, due_word, output_word}
 use Rattle.thread_state.specs.Pages.{committed}
 use Rattle.push_core.specs.Queue.{StandsQueue, StandsSource}
 use Rattle.prog_check.specs.Lookup.{thread_def, pipe_def, timer_def, task_def, instr_at, source_thread}
+use Rattle.ink_layout.specs.Shape.{pages_of}
 use Rattle.never_cut.specs.declared.model.Model.{Model}
 use Rattle.never_cut.specs.State.{thread_of, pipe_of, timer_of, source_of, queue_of, source_in}
 use Rattle.never_cut.specs.Commit.{outputs_of}
@@ -99,7 +100,8 @@ log_of words t n = words (Log t n)
 abbrev pub AreLogged : (ℕ → ℕ) → List Output → Type 0
 AreLogged log outputs = (n : ℕ) → n < length outputs → log n ≡ slice_index (map output_word outputs) n
 
--- the committed copy of a thread's block reads as the thread, with its event where a chain runs, and its log holds its outputs
+-- The committed copy of a thread's block reads as the thread, with its event where a chain runs, and its log holds its outputs, whose stamps the thread has
+-- reached. Its commit word names pages that it has.
 pub record StandsThread (words : Memory) (program : Program) (m : Model) (t : ℕ) : Type 0 where
   pub stamp : ℕ
   pub origin : ℕ
@@ -107,6 +109,8 @@ pub record StandsThread (words : Memory) (program : Program) (m : Model) (t : �
   pub block : (w : ℕ) → committed words t w ≡ slice_index (thread_words (saved program m t) stamp origin value) w
   pub event : ForSome (thread_of m t).event (λ e. (origin ≡ origin_word e.origin) × (value ≡ e.value))
   pub log : AreLogged (log_of words t) (outputs_of m t)
+  pub reached : All (λ (o : Output). o.stamp ≤ stamp) (outputs_of m t)
+  pub pages : words (Commit t) < 2 ^ pages_of (thread_def program t)
 
 -- the items of a pipe stand in its ring
 abbrev pub StandsPipe : Memory → Program → Model → ℕ → Type 0

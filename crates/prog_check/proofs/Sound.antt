@@ -9,7 +9,7 @@ use Rattle.task_isa.specs.declared.program.TimerDef.{TimerDef}
 use Rattle.task_isa.specs.declared.program.Task.{Task}
 use Rattle.task_isa.specs.declared.program.Program.{Program}
 use Rattle.prog_check.specs.Lookup.{no_thread_def, no_pipe_def, no_timer_def, no_task_def, thread_def, source_thread, pipe_def, timer_def, task_def, instr_at}
-use Rattle.prog_check.specs.Accepted.{HasCounts, HasDistinct, AreReadBack, IsRightTask, IsAccepted}
+use Rattle.prog_check.specs.Accepted.{HasCounts, HasDistinct, HasFittingCode, IsRightTask, IsAccepted}
 use Rattle.prog_check.specs.Faults.{is_between, is_thread_within, is_thread_taken, thread_fault, has_thread, source_fault, is_pipe_taken, is_pipe_owned, pipe_fault, is_timer_within, is_timer_taken, timer_fault, is_owned, instr_fault, is_task_taken, task_fault, limit_fault, has_task, served_fault, is_aimed, stays, target_fault, has_end, code_fault, meaning_fault, first_fault}
 use Rattle.prog_check.proofs.Below.{or_else_none, unless_none, each_none}
 use Rattle.prog_check.proofs.Passed.{between, thread_within, pipe_right, timer_right, instr_right, task_ends, task_found}
@@ -98,8 +98,8 @@ code_meets program lines x h = let p = or_else_none _ _ h in record {
   ends = unless_none _ _ _ p.1;
 }
 
-task_right : (program : Program) (x : ℕ) → TaskMeets program x → CodeMeets program x → AreReadBack (task_def program x) → IsRightTask program (task_def program x)
-task_right program x meets code read_back =
+task_right : (program : Program) (x : ℕ) → TaskMeets program x → CodeMeets program x → HasFittingCode (task_def program x) → IsRightTask program (task_def program x)
+task_right program x meets code fits =
     let limit = between _ _ _ meets.within in
     let ends = task_ends (task_def program x) code.ends in
     record {
@@ -109,7 +109,7 @@ task_right program x meets code read_back =
       code = ends.0;
       ends = ends.1;
       instrs = λ n lt. instr_right program (task_def program x) (instr_at (task_def program x) n) (meets.owned n lt) (code.aimed n lt) (code.stay n lt);
-      read_back = read_back;
+      fits = fits;
     }
 
 -- what the whole judgement says where it gives no fault
@@ -175,11 +175,11 @@ distinct_of program m = record {
   tasks = λ i k below within. names_differ _ _ (untaken (λ (other : Task). bytes_eq other.name (task_def program k).name) program.tasks i k no_task_def below within (m.tasks k within).taken);
 }
 
--- a program without a fault, whose priorities are bytes and whose code reads back, is accepted
+-- a program without a fault, whose priorities are bytes and whose operands fit their bits, is accepted
 pub accepted_of : (program : Program) (lines : Lines) → first_fault program lines ≡ None
     → ((t : ℕ) → t < length program.threads → (thread_def program t).priority < 256)
-    → ((x : ℕ) → x < length program.tasks → AreReadBack (task_def program x)) → IsAccepted program
-accepted_of program lines h priorities read_back =
+    → ((x : ℕ) → x < length program.tasks → HasFittingCode (task_def program x)) → IsAccepted program
+accepted_of program lines h priorities fits =
     let m = meets_of program lines h in
     record {
       counts = m.counts;
@@ -188,6 +188,6 @@ accepted_of program lines h priorities read_back =
       sources = m.sources;
       pipes = λ q lt. pipe_right program (pipe_def program q) (m.pipes q lt).within (m.pipes q lt).owned;
       timers = λ j lt. timer_right program (timer_def program j) (m.timers j lt).within (m.timers j lt).owned;
-      tasks = λ x lt. task_right program x (m.tasks x lt) (m.code x lt) (read_back x lt);
+      tasks = λ x lt. task_right program x (m.tasks x lt) (m.code x lt) (fits x lt);
       served = λ t lt. task_found program t (m.served t lt);
     }

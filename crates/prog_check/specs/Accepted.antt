@@ -1,5 +1,5 @@
--- What an accepted program keeps: its counts and numbers are within the limits, its ids and targets are right, and its code words read back.
-use Rattle.std.specs.Prelude.{◌≡◌, ◌≢◌, ℕ, ◌-◌, ◌<◌, ◌≤◌, ◌^◌, Bool, true, false, IsTrue, Some, length}
+-- What an accepted program keeps: its counts and numbers are within the limits, its ids and targets are right, and its operands fit their bits.
+use Rattle.std.specs.Prelude.{◌≡◌, ◌≢◌, ℕ, ◌-◌, ◌<◌, ◌≤◌, ◌^◌, Bool, true, false, IsTrue, length}
 use Rattle.std.specs.Option.{ForSome, ForNone}
 use Rattle.task_isa.specs.declared.instr.Instr.{Instr}
 use Rattle.task_isa.specs.declared.instr.Instr.TheVariants.{Jmp, Jz, Jnz, Send, Arm, Stop, Next, Done}
@@ -8,7 +8,7 @@ use Rattle.task_isa.specs.declared.program.PipeDef.{PipeDef}
 use Rattle.task_isa.specs.declared.program.TimerDef.{TimerDef}
 use Rattle.task_isa.specs.declared.program.Task.{Task}
 use Rattle.task_isa.specs.declared.program.Program.{Program}
-use Rattle.task_isa.specs.Code.{word_of_instr, decoded}
+use Rattle.task_isa.specs.Code.{IsInstr}
 use Rattle.prog_check.specs.Lookup.{thread_def, source_thread, pipe_def, timer_def, task_def, instr_at, first_task, code_len}
 
 -- how many declarations of each kind there are, and how many instructions
@@ -64,15 +64,11 @@ ends_code (Next i) = true
 ends_code Done = true
 ends_code _ = false
 
--- an instruction is what its word is read as
-abbrev pub IsReadBack : Instr → Type 0
-IsReadBack instr = decoded (word_of_instr instr) ≡ Some instr
+-- the operands of each instruction of a task fit their bits, so that its word is read back as it
+abbrev pub HasFittingCode : Task → Type 0
+HasFittingCode task = (n : ℕ) → n < length task.code → IsInstr (instr_at task n)
 
--- so is each instruction of a task
-abbrev pub AreReadBack : Task → Type 0
-AreReadBack task = (n : ℕ) → n < length task.code → IsReadBack (instr_at task n)
-
--- a task is of a thread, and its instructions are right and read back
+-- a task is of a thread, and its instructions are right and fit their words
 pub record IsRightTask (program : Program) (task : Task) : Type 0 where
   pub thread : task.thread.0 < length program.threads
   pub limit_least : 1 ≤ task.limit
@@ -80,7 +76,7 @@ pub record IsRightTask (program : Program) (task : Task) : Type 0 where
   pub code : 0 < length task.code
   pub ends : IsTrue (ends_code (instr_at task (length task.code - 1)))
   pub instrs : (n : ℕ) → n < length task.code → IsRightInstr program task (instr_at task n)
-  pub read_back : AreReadBack task
+  pub fits : HasFittingCode task
 
 -- no two numbers below a count have one key
 abbrev pub AreDistinct : {K : Type 0} → (ℕ → K) → ℕ → Type 0

@@ -3,7 +3,7 @@
 ghost use Rattle.std.specs.Prelude.{◌≡◌, ℕ, ◌<◌, length, IfOk};
 ghost use Rattle.std.specs.Result.{result_err};
 ghost use Rattle.prog_check.specs.Lookup.{thread_def, task_def};
-ghost use Rattle.prog_check.specs.Accepted.{AreReadBack};
+ghost use Rattle.prog_check.specs.Accepted.{HasFittingCode};
 ghost use Rattle.prog_check.specs.Faults.{limit_fault};
 
 use crate::devices::{judge_pipes, judge_timers};
@@ -16,7 +16,7 @@ use task_isa::{Lines, Program};
 pub fn judge_limits(program: &Program, lines: &Lines) -> Result<(), JobFault>
     ensures fault { result_err result ≡ limit_fault program.now lines.now }
     ensures priorities { IfOk result (λ _. (t : ℕ) → t < length program.now.threads → (thread_def program.now t).priority < 256) }
-    ensures read_back { IfOk result (λ _. (x : ℕ) → x < length program.now.tasks → AreReadBack (task_def program.now x)) }
+    ensures fits { IfOk result (λ _. (x : ℕ) → x < length program.now.tasks → HasFittingCode (task_def program.now x)) }
 {
     judge_threads(program, lines)?;
     judge_sources(program, lines)?;

@@ -1,24 +1,16 @@
 //! The operands of instructions, which fit their bits as their types keep.
 
 ghost use Rattle.task_isa.specs.Code.{FitsWord, IsInstr};
-ghost use Rattle.prog_check.specs.Accepted.{IsReadBack};
 
 use task_isa::{Instr, Reg};
 
-/// An instruction is what its word is read as, since its operands fit their bits. Nothing is done.
+/// The operands of an instruction fit their bits, as their types keep, so that its word is read back as it. Nothing is done.
 #[inline(always)]
-pub fn read_back(instr: &Instr)
-    ensures { IsReadBack instr.now }
-{
-    operands_fit(*instr);
-}
-
-#[inline(always)]
-fn operands_fit(instr: Instr)
-    ensures { IsInstr instr }
+pub fn operands_fit(instr: &Instr)
+    ensures { IsInstr instr.now }
 {
     let no = Reg::new(0);
-    match instr {
+    match *instr {
         Instr::Add { a, b, c }
         | Instr::Sub { a, b, c }
         | Instr::Mul { a, b, c }

@@ -2,13 +2,14 @@
 
 ghost use Rattle.std.specs.Prelude.{◌≡◌, ℕ, ◌<◌, ◌≤◌, length, nat_le, sum_by, IfOk};
 ghost use Rattle.std.specs.Result.{result_err};
+ghost use Rattle.task_isa.specs.Code.{IsInstr};
 ghost use Rattle.prog_check.specs.Lookup.{task_def, instr_at};
-ghost use Rattle.prog_check.specs.Accepted.{IsReadBack, AreReadBack};
+ghost use Rattle.prog_check.specs.Accepted.{HasFittingCode};
 ghost use Rattle.prog_check.specs.Faults.{is_task_taken, writes, sets, is_owned, instr_fault, task_fault, tasks_fault, first_below};
 ghost use Rattle.task_isa.specs.declared.program.Task.{Task as ATask};
 
 use crate::demand::demand;
-use crate::operands::read_back;
+use crate::operands::operands_fit;
 use crate::parts::{instr, instr_line, pipe, task, task_line, timer};
 use crate::threads::has_thread;
 use ink_base::{Cause, JobFault};
@@ -44,11 +45,11 @@ fn judge_instr(program: &Program, lines: &Lines, x: usize, n: usize) -> Result<(
     requires task { x < length program.now.tasks }
     requires offset { n < length (task_def program.now x).code }
     ensures fault { result_err result ≡ instr_fault program.now lines.now x n }
-    ensures read_back { IsReadBack (instr_at (task_def program.now x) n) }
+    ensures fits { IsInstr (instr_at (task_def program.now x) n) }
 {
     let task = task(program, x);
     let instr = instr(task, n);
-    read_back(instr);
+    operands_fit(instr);
     let owned = is_owned(program, task, instr);
     demand(owned, instr_line(lines, x, n), Cause::BadOwner)
 }
@@ -57,7 +58,7 @@ fn judge_instr(program: &Program, lines: &Lines, x: usize, n: usize) -> Result<(
 fn judge_owners(program: &Program, lines: &Lines, x: usize) -> Result<(), JobFault>
     requires { x < length program.now.tasks }
     ensures fault { result_err result ≡ first_below (instr_fault program.now lines.now x) (length (task_def program.now x).code) }
-    ensures read_back { IfOk result (λ _. AreReadBack (task_def program.now x)) }
+    ensures fits { IfOk result (λ _. HasFittingCode (task_def program.now x)) }
 {
     let count = task(program, x).code.len();
     for n in 0..count {
@@ -77,7 +78,7 @@ fn is_task_taken(before: &[Task], task: &Task) -> bool
 fn judge_task(program: &Program, lines: &Lines, x: usize) -> Result<(), JobFault>
     requires { x < length program.now.tasks }
     ensures fault { result_err result ≡ task_fault program.now lines.now x }
-    ensures read_back { IfOk result (λ _. AreReadBack (task_def program.now x)) }
+    ensures fits { IfOk result (λ _. HasFittingCode (task_def program.now x)) }
 {
     let task = task(program, x);
     let line = task_line(lines, x);
@@ -109,7 +110,7 @@ fn is_code_within(tasks: &[Task]) -> bool
 #[tactic(auto, using(crate::proofs::Below::first_below_zero, crate::proofs::Below::first_below_more, crate::proofs::Below::first_below_at))]
 pub fn judge_tasks(program: &Program, lines: &Lines) -> Result<(), JobFault>
     ensures fault { result_err result ≡ tasks_fault program.now lines.now }
-    ensures read_back { IfOk result (λ _. (x : ℕ) → x < length program.now.tasks → AreReadBack (task_def program.now x)) }
+    ensures fits { IfOk result (λ _. (x : ℕ) → x < length program.now.tasks → HasFittingCode (task_def program.now x)) }
 {
     let count = program.tasks.len();
     demand(count <= 256, lines.program, Cause::OverLimit)?;

@@ -1,8 +1,11 @@
 -- Each access before the commit keeps what is known while a pick is served.
-use Rattle.std.proofs.Common.{◌≡◌, ℕ, ◌/◌, ◌^◌, ◌<◌, ◌≤◌, cond, List, length, get_or, arith, refl, ap, ◌∙◌, sym, inl, inr, subst}
+use Rattle.std.proofs.Common.{◌≡◌, ℕ, ◌*◌, ◌/◌, ◌^◌, ◌<◌, ◌≤◌, ◌==◌, Bool, true, false, cond, List, length, get_or, arith, refl, ap, ◌∙◌, sym, inl, inr, subst}
 use Rattle.std.proofs.Math.Path.{fun_ext}
 use Rattle.std.proofs.lemmas.Bool.{cases_eq}
 use Rattle.std.proofs.lemmas.Nat.Bits.{bit_at-lt}
+use Rattle.std.proofs.lemmas.Nat.{or_lt}
+use Rattle.std.proofs.Math.Pow.{pow-lt}
+use Rattle.std.specs.Prelude.{bit_or}
 use Rattle.std.specs.Int.{bit_at}
 use Rattle.fram_words.specs.Places.{Commit, Log, Ring, Memory, store, perform, answer}
 use Rattle.thread_state.specs.Pages.{place_in, working, working_mask, no_writes, Buffer, Copying, Loading, Storing, Buffered, IsCopied, IsUnderWay, put, is_dirty, put_access, copy_access, after_copy}
@@ -11,6 +14,7 @@ use Rattle.task_isa.specs.declared.program.Program.{Program}
 use Rattle.task_isa.specs.declared.sent.Sent.{Sent}
 use Rattle.prog_check.specs.Lookup.{thread_def}
 use Rattle.ink_layout.specs.declared.pick.Pick.{Pick}
+use Rattle.ink_layout.specs.Shape.{pages_of}
 use Rattle.never_cut.specs.declared.model.Model.{Model}
 use Rattle.never_cut.specs.Stands.{Saved, saved, thread_words, log_of, AreLogged, StandsThread}
 use Rattle.never_cut.specs.Entries.{Readings}
@@ -61,6 +65,15 @@ after_copy-commit : (b : Buffer) (p : ℕ) (x : Copying) (word : ℕ) → (after
 after_copy-commit b p (Loading k) word = refl
 after_copy-commit b p (Storing k v) word = refl
 
+-- the dirty pages of a buffer, with one that was copied
+after_copy-dirty : (b : Buffer) (p : ℕ) (x : Copying) (word n : ℕ) → p < n → b.dirty < 2 ^ n → (after_copy b p x word).dirty < 2 ^ n
+after_copy-dirty b p (Loading k) word n lt few = few
+after_copy-dirty b p (Storing k v) word n lt few = by_last (k == 7)
+  where
+    by_last : (last : Bool) → cond last (bit_or b.dirty (2 ^ p)) b.dirty < 2 ^ n
+    by_last true = or_lt n b.dirty (2 ^ p) few (pow-lt lt)
+    by_last false = few
+
 -- the pick is as it was where the thread's commit word is
 pub picked_at : (program : Program) (words new : Memory) (m : Model) (pick : Pick) → new (Commit pick.thread.0) ≡ words (Commit pick.thread.0) →
     IsPicked program words m pick → IsPicked program new m pick
@@ -89,12 +102,12 @@ picked_time program readings words m pick sound p =
     omega arith
 
 -- one access of the copying of a clean page
-copy_serving : (program : Program) (m : Model) (words : Memory) (r : TaskMachine) (w v : ℕ) → Serving program words m r →
+copy_serving : (program : Program) (m : Model) (words : Memory) (r : TaskMachine) (w v : ℕ) → Serving program words m r → w < 8 * pages_of (thread_def program r.pick.thread.0) →
     ((b : Buffer) → action program (record r { buffer = b }) r.phase ≡ Put w v) →
     bit_at r.buffer.dirty (w / 8) ≡ 0 → IsCopied words r.pick.thread.0 r.buffer.commit (w / 8) r.buffer.copying →
     Serving program (perform words (copy_access r.pick.thread.0 r.buffer.commit (w / 8) r.buffer.copying)) m
     (record r { buffer = after_copy r.buffer (w / 8) r.buffer.copying (answer words (copy_access r.pick.thread.0 r.buffer.commit (w / 8) r.buffer.copying)) })
-copy_serving program m words r w v h act clean copied =
+copy_serving program m words r w v h within act clean copied =
     let t : ℕ = r.pick.thread.0 in
     let b : Buffer = r.buffer in
     let p : ℕ = w / 8 in
@@ -118,6 +131,7 @@ copy_serving program m words r w v h act clean copied =
       logged = subst (λ l. AreLogged l h.y.outputs) log h.logged;
       sent = sent_frame words n program m h.sends (λ q k. copy_only words t b.commit p x (Ring q k) tt) h.sent;
       size = h.size;
+      pages = after_copy-dirty b p x (answer words (copy_access t b.commit p x)) (pages_of (thread_def program r.pick.thread.0)) (omega arith) h.pages;
       progress =
           progress_frame words n (told program m r h.y h.sends h.s h.o h.v) r.phase (λ u. copy_only words t b.commit p x (Commit u) tt)
           (λ q k. copy_only words t b.commit p x (Ring q k) tt) (λ k. copy_only words t b.commit p x (Log t k) tt) h.progress;
@@ -125,16 +139,17 @@ copy_serving program m words r w v h act clean copied =
 
 -- one access of a write, which is done where the page is dirty
 pub put_step : (program : Program) (m : Model) (words : Memory) (r : TaskMachine) (w v : ℕ) (next : TaskMachine) → Serving program words m r →
+    w < 8 * pages_of (thread_def program r.pick.thread.0) →
     ((b : Buffer) → action program (record r { buffer = b }) r.phase ≡ Put w v) →
     (bit_at r.buffer.dirty (w / 8) ≡ 1 → r.buffer.copying ≡ Loading 0 →
     Serving program (store words (place_in r.pick.thread.0 (working_mask r.buffer) w) v) m next) →
     Serving program (perform words (put_access r.pick.thread.0 r.buffer w v)) m
     (cond (is_dirty r.buffer (w / 8)) next
     (record r { buffer = after_copy r.buffer (w / 8) r.buffer.copying (answer words (put_access r.pick.thread.0 r.buffer w v)) }))
-put_step program m words r w v next h act done =
+put_step program m words r w v next h within act done =
     let under : IsUnderWay words r.pick.thread.0 r.buffer (w / 8) = subst (λ a. IsReady words r.pick.thread.0 r.buffer a) (act r.buffer) h.ready in
     elim under [
-      | inl c ↦ rw (is_dirty-false r.buffer (w / 8) c.0) (copy_serving program m words r w v h act c.0 c.1)
+      | inl c ↦ rw (is_dirty-false r.buffer (w / 8) c.0) (copy_serving program m words r w v h within act c.0 c.1)
       | inr d ↦ rw (is_dirty-true r.buffer (w / 8) d.0) (done d.0 d.1)
     ]
 
@@ -147,12 +162,13 @@ pub record Holding (program : Program) (words : Memory) (m : Model) (r : TaskMac
   pub logged : AreLogged (log_of words r.pick.thread.0) y.outputs
   pub sent : AreSent (rings_of words) program m.pipes sends
   pub size : length y.state ≡ (thread_def program r.pick.thread.0).state
+  pub pages : r.buffer.dirty < 2 ^ pages_of (thread_def program r.pick.thread.0)
 
 -- between two actions
 pub holding_load : (program : Program) (m : Model) (words : Memory) (r : TaskMachine) → (h : Serving program words m r) → r.buffer.copying ≡ Loading 0 →
     Holding program words m r h.y h.sends h.s h.o h.v
 holding_load program m words r h fresh =
-    record { picked = h.picked; stamp = h.stamp; buffered = h.buffered; fresh = fresh; logged = h.logged; sent = h.sent; size = h.size }
+    record { picked = h.picked; stamp = h.stamp; buffered = h.buffered; fresh = fresh; logged = h.logged; sent = h.sent; size = h.size; pages = h.pages }
 
 -- after the write on the dirty page
 pub holding_put : (program : Program) (m : Model) (words : Memory) (r : TaskMachine) (w u : ℕ) (y : Saved) (sends : List Sent) (s o v : ℕ) →
@@ -178,6 +194,7 @@ holding_put program m words r w u y sends s o v h dirty fresh contents logged se
       logged = subst (λ l. AreLogged l y.outputs) log logged;
       sent = sent_frame words n program m sends (λ q k. dirty_put_only words t (working_mask b) w u (Ring q k) tt) sent;
       size = size;
+      pages = h.pages;
     }
 
 -- the next phase, with what the run has come to
@@ -197,6 +214,7 @@ serving_at program m words r e phase y sends s o v h progress = record {
   logged = h.logged;
   sent = h.sent;
   size = h.size;
+  pages = h.pages;
   progress = progress;
 }
 

@@ -33,23 +33,11 @@ use Rattle.task_run.specs.Reached.{task_loaded, GoesOn, IsPhaseOf, IsServiceOf}
 use Rattle.task_run.proofs.Accesses.{machine_at}
 use Rattle.task_run.proofs.Acts.{Lands, task_lands}
 use Rattle.task_run.proofs.Limits.{execution_fits}
+use Rattle.task_run.proofs.Words.{total_low, total_high}
 
 -- a word of a block by its page and its number there
 whole_word : (w : ℕ) → 8 * (w / 8) + w % 8 ≡ w
 whole_word w = omega arith
-
--- the header words of totals
-total_low : (ending : Ending) → header.served ≤ total_word ending
-total_low (endings.Next task) = omega arith
-total_low endings.Done = omega arith
-total_low endings.Trapped = omega arith
-total_low endings.Expired = omega arith
-
-total_high : (ending : Ending) → total_word ending ≤ header.expired
-total_high (endings.Next task) = omega arith
-total_high endings.Done = omega arith
-total_high endings.Trapped = omega arith
-total_high endings.Expired = omega arith
 
 -- a word in the range of its place is one that the phase takes
 pub task_word : (program : Program) (pick : Pick) (stamp : ℕ) (b : Buffer) (ending : Ending) (e : Execution) (phase : Phase) (word : ℕ) → IsAccepted program →

@@ -10,6 +10,7 @@ use Rattle.never_cut.specs.Stands.{Saved, saved, StandsThread}
 use Rattle.never_cut.specs.Entries.{Readings}
 use Rattle.never_cut.specs.kept.Picked.{IsPicked}
 use Rattle.never_cut.specs.kept.Steps.{Background}
+use Rattle.never_cut.proofs.Privates.{no_pages}
 use Rattle.task_run.specs.declared.phase.Phase.TheVariants.{WriteFirst, Resume}
 use Rattle.task_run.specs.Machine.{begin, first_phase, execution_of, running_task}
 use Rattle.task_run.specs.kept.Serving.{Begins as Starts}
@@ -35,6 +36,7 @@ module _ (program : Program) (readings : Readings) (words : Memory) (m : Model) 
     logged = stands.log;
     sent = unsent program m words g.private;
     size = g.sound.shape.states pick.thread.0 p.known;
+    pages = no_pages program pick.thread.0;
   }
 
   by_running : (running : Option TaskId) → pick.running ≡ running → KnowsAt program words m (record (begin pick stamp) { phase = first_phase running }) (first_phase running)

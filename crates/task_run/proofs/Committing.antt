@@ -1,14 +1,18 @@
 -- After the store of the commit word the words stand for what the commit makes of the state.
 use Rattle.std.proofs.Common.{◌≡◌, ◌≢◌, ℕ, ◌+◌, ◌^◌, ◌<◌, ◌≤◌, true, false, List, ◌∷◌, length, get_or, arith, refl, ap, ◌∙◌, sym, subst, inl, inr}
-use Rattle.std.specs.Prelude.{Option, Some, None, IsSome}
+use Rattle.std.specs.Prelude.{Option, Some, None, IsSome, All, ◌==◌}
 use Rattle.std.specs.Option.{ForSome}
 use Rattle.std.proofs.lemmas.Bool.{cases_eq}
+use Rattle.std.proofs.lemmas.Nat.{xor_lt}
+use Rattle.std.proofs.lemmas.List.Elements.{All-filter}
 use Rattle.ink_base.specs.declared.event.Event.{Event}
 use Rattle.ink_base.specs.declared.event.Origin.{Origin}
 use Rattle.ink_base.specs.declared.event.Origin.TheVariants as origins
+use Rattle.ink_base.specs.declared.output.Output.{Output}
 use Rattle.ink_base.specs.declared.entry.Entry.TheVariants as entries
 use Rattle.fram_words.specs.Places.{Commit, Tail, Memory, store}
 use Rattle.fram_words.specs.Held.{origin_word}
+use Rattle.fram_words.proofs.Frames.{store-same, store-other}
 use Rattle.thread_state.specs.Pages.{committed, working_mask, Buffer}
 use Rattle.thread_state.proofs.Pages.{commit_committed, commit_other}
 use Rattle.task_isa.specs.declared.program.Program.{Program}
@@ -16,16 +20,19 @@ use Rattle.task_isa.specs.declared.sent.Sent.{Sent}
 use Rattle.prog_check.specs.Accepted.{IsAccepted}
 use Rattle.prog_check.specs.Lookup.{thread_def}
 use Rattle.ink_layout.specs.declared.pick.Pick.{Pick}
+use Rattle.ink_layout.specs.Shape.{pages_of}
 use Rattle.never_cut.specs.declared.model.Model.{Model}
 use Rattle.never_cut.specs.declared.scan_model.ScanModel.{ScanModel}
 use Rattle.never_cut.specs.declared.thread_model.ThreadModel.{ThreadModel}
 use Rattle.never_cut.specs.State.{thread_of, queue_of, is_running}
 use Rattle.never_cut.specs.Entries.{Readings, Legal, ArePassed, IsCalm}
-use Rattle.never_cut.specs.Commit.{is_of_queue}
+use Rattle.never_cut.specs.Commit.{is_of_queue, outputs_of}
 use Rattle.never_cut.specs.Stands.{Saved, saved, thread_words, log_of, AreLogged, StandsThread, StandsPrivate, slots_of}
 use Rattle.push_core.specs.Queue.{StandsQueue, published}
-use Rattle.never_cut.specs.Sound.{IsSound}
+use Rattle.never_cut.specs.Sound.{IsSound, HasStamps}
 use Rattle.never_cut.specs.kept.Actors.{StandsForKernel}
+use Rattle.never_cut.proofs.SoundParts.{parts_of}
+use Rattle.never_cut.proofs.SoundCommits.{commit_sound}
 use Rattle.never_cut.proofs.Beginnings.{Begins}
 use Rattle.never_cut.proofs.PickedEvents.{picked_begins}
 use Rattle.task_run.specs.declared.ending.Ending.{Ending}
@@ -39,7 +46,7 @@ use Rattle.task_run.proofs.Words.{words-of_stamp}
 use Rattle.task_run.proofs.Accesses.{machine_at, picked_time}
 use Rattle.task_run.proofs.Owned.{AreOwn, own_result}
 use Rattle.task_run.proofs.Effects.{thread-own, thread-other}
-use Rattle.task_run.proofs.Commits.{own_thread, next_pipes, next_timers, next_model}
+use Rattle.task_run.proofs.Commits.{own_thread, next_pipes, next_timers, next_model, commit-picked}
 use Rattle.task_run.proofs.NextStates.{IsConsumable, own-saved, other-saved, idle_there}
 use Rattle.task_run.proofs.NextThreads.{IsServed, finishes, serves}
 use Rattle.task_run.proofs.PipeRings.{begun_stands}
@@ -107,8 +114,24 @@ module _ (program : Program) (readings : Readings) (m : Model) (words : Memory) 
       commit_committed words t (working_mask b) w
       ∙ (h.buffered.words w ∙ ap (λ (z : Saved). get_or (thread_words z h.s h.o h.v) w 0) own_words_saved)
 
-  own_stands : StandsThread next_words program next t
-  own_stands = record {
+  pub commit_legal : Legal program readings m (entries.Commit pick.thread)
+  commit_legal =
+      let p = h.picked in
+      let in_scan : Option ScanModel → Type 0 = λ s. elim s [ None ↦ ⊥ | Some scan ↦ ArePassed program m scan pick.thread.0 ] in (
+        p.known,
+        subst in_scan (sym p.scanned) p.passed,
+        subst (λ o. IsSome o) (sym p.pending_is) refl,
+      )
+
+  -- each output has the stamp of a commit that was made by then
+  outputs_reached : All (λ (o : Output). o.stamp ≤ m.commits + 1) next.outputs
+  outputs_reached =
+      let parts = commit_sound program readings m pick.thread accepted (parts_of program readings m sound) commit_legal in
+      let stamps : HasStamps next.commits next.outputs = subst (λ (k : Model). HasStamps k.commits k.outputs) (commit-picked program words m pick h.picked) parts.stamps in
+      λ k d lt. (stamps.made k d lt).1
+
+  own_stands : StandsThread words program m t → StandsThread next_words program next t
+  own_stands stands = record {
     stamp = h.s;
     origin = h.o;
     value = h.v;
@@ -117,6 +140,10 @@ module _ (program : Program) (readings : Readings) (m : Model) (words : Memory) 
         let same : q ≡ pick.event = is_served.event q (sym (ap (λ (z : ThreadModel). z.event) own_is) ∙ is) in
         (h.progress.0.origin ∙ ap (λ (x : Event). origin_word x.origin) (sym same), h.progress.0.value ∙ ap (λ (x : Event). x.value) (sym same));
     log = subst (λ (z : Saved). AreLogged (log_of words t) z.outputs) own_words_saved h.logged;
+    reached = subst (λ n. All (λ (o : Output). o.stamp ≤ n) (outputs_of next t)) (sym (h.progress.1 ∙ ap (λ n. n + 1) h.stamp))
+        (All-filter (λ (o : Output). o.thread.0 == t) (λ (o : Output). o.stamp ≤ m.commits + 1) next.outputs outputs_reached);
+    pages = subst (λ c. c < 2 ^ pages_of (thread_def program t)) (sym (store-same words (Commit pick.thread.0) (working_mask b)))
+        (xor_lt (pages_of (thread_def program t)) b.commit b.dirty (subst (λ c. c < 2 ^ pages_of (thread_def program t)) (sym h.buffered.commit) stands.pages) h.pages);
   }
 
   saved_other : (u : ℕ) → u ≢ t → saved program next u ≡ saved program m u
@@ -132,6 +159,9 @@ module _ (program : Program) (readings : Readings) (m : Model) (words : Memory) 
         ∙ (k.block w ∙ ap (λ (z : Saved). get_or (thread_words z k.stamp k.origin k.value) w 0) (sym (saved_other u ne)));
     event = subst (λ (z : ThreadModel). ForSome z.event (λ q. (k.origin ≡ origin_word q.origin) × (k.value ≡ q.value))) (sym (other_is u ne)) k.event;
     log = subst (λ (z : Saved). AreLogged (log_of words u) z.outputs) (sym (saved_other u ne)) k.log;
+    reached = subst (λ (z : Saved). All (λ (o : Output). o.stamp ≤ k.stamp) z.outputs) (sym (saved_other u ne)) k.reached;
+    pages = subst (λ c. c < 2 ^ pages_of (thread_def program u))
+        (sym (store-other words (Commit pick.thread.0) (Commit u) (working_mask b) λ e. ne (let same : u ≡ pick.thread.0 = cc in same))) k.pages;
   }
 
   own_stamp : committed next_words t 0 ≡ m.commits + 1
@@ -142,7 +172,7 @@ module _ (program : Program) (readings : Readings) (m : Model) (words : Memory) 
     code = λ x n. stands.code x n;
     threads = λ u known.
         elim (cases_eq u t) [
-          | inl same ↦ subst (λ z. StandsThread next_words program next z) (sym same) own_stands
+          | inl same ↦ subst (λ z. StandsThread next_words program next z) (sym same) (own_stands (stands.threads t h.picked.known))
           | inr ne ↦ other_stands u ne (stands.threads u known)
         ];
     stamps = λ u known.
@@ -226,12 +256,3 @@ module _ (program : Program) (readings : Readings) (m : Model) (words : Memory) 
 
   pub commit_knows : Knows program next_words next (at_phase (machine_at pick stamp b ending e StoreCommit) (after_commit ending pick.event.origin))
   commit_knows = knows_by ending refl
-
-  pub commit_legal : Legal program readings m (entries.Commit pick.thread)
-  commit_legal =
-      let p = h.picked in
-      let in_scan : Option ScanModel → Type 0 = λ s. elim s [ None ↦ ⊥ | Some scan ↦ ArePassed program m scan pick.thread.0 ] in (
-        p.known,
-        subst in_scan (sym p.scanned) p.passed,
-        subst (λ o. IsSome o) (sym p.pending_is) refl,
-      )

@@ -50,7 +50,7 @@ module _ (program : Program) (readings : Readings) (m : Model) (words : Memory) 
       let loaded : q.taken ≡ item = h.picked.loaded p.idle in
       let y : Saved = record (h.y) { taken = changed h.y.taken pipe.0 (q.taken + 1) } in
       let n : Memory = store words (place_in q.thread.0 (working_mask b) (header.taken pipe.0)) (q.taken + 1) in
-      put_step program m words r (header.taken pipe.0) (q.taken + 1) (after_event program r ending) h (λ c. refl) λ dirty fresh.
+      put_step program m words r (header.taken pipe.0) (q.taken + 1) (after_event program r ending) h (omega arith) (λ c. refl) λ dirty fresh.
       let held : Holding program n m r y h.sends h.s h.o h.v =
       holding_put program m words r (header.taken pipe.0) (q.taken + 1) y h.sends h.s h.o h.v h dirty fresh (λ k. words-taken h.y h.s h.o h.v pipe.0 (q.taken + 1) k small) h.logged h.sent h.size
       in event_serving program readings m q stamp b e accepted sound n WriteTaken y h.sends h.s ending p.before
@@ -97,7 +97,7 @@ module _ (program : Program) (readings : Readings) (m : Model) (words : Memory) 
       let loaded : q.due_word ≡ deadline + 1 = h.picked.loaded p.idle in
       let n : Memory = store words (place_in q.thread.0 (working_mask b) (header.due timer.0)) w in
       let y : Saved = with_due h.y timer.0 w in
-      put_step program m words r (header.due timer.0) w (after_event program r ending) h (λ c. refl) λ dirty fresh.
+      put_step program m words r (header.due timer.0) w (after_event program r ending) h (omega arith) (λ c. refl) λ dirty fresh.
       let held : Holding program n m r y h.sends h.s h.o h.v =
       holding_put program m words r (header.due timer.0) w y h.sends h.s h.o h.v h dirty fresh (λ k. words-due h.y h.s h.o h.v timer.0 w k small) h.logged h.sent h.size
       in event_serving program readings m q stamp b e accepted sound n (WriteDue w) y h.sends h.s ending p.before

@@ -95,7 +95,7 @@ module _ (program : Program) (m : Model) (words : Memory) (pick : Pick) (stamp :
   pub step-stamp : Serving program words m (machine_at pick stamp b ending e WriteStamp) → Steps program m words (machine_at pick stamp b ending e WriteStamp)
   step-stamp h =
       let r : TaskMachine = machine_at pick stamp b ending e WriteStamp in
-      put_step program m words r 0 (stamp + 1) (machine_at pick stamp b ending e StoreCommit) h (λ c. refl) λ dirty fresh.
+      put_step program m words r 0 (stamp + 1) (machine_at pick stamp b ending e StoreCommit) h (omega arith) (λ c. refl) λ dirty fresh.
       serving_at program m (store words (place_in pick.thread.0 (working_mask b) 0) (stamp + 1)) r e StoreCommit h.y h.sends (stamp + 1) h.o h.v
       (holding_put program m words r 0 (stamp + 1) h.y h.sends (stamp + 1) h.o h.v h dirty fresh (words-stamp h.y h.s h.o h.v (stamp + 1)) h.logged h.sent h.size)
       (record { is = h.progress.is; sent = h.progress.sent; end = h.progress.end; origin = h.progress.origin; value = h.progress.value }, refl)
@@ -109,7 +109,7 @@ module _ (program : Program) (m : Model) (words : Memory) (pick : Pick) (stamp :
       let unflagged : flag (thread_of m t).finished ≡ 0 = ap (λ z. flag z) (p.calm t p.known) in
       let ended : h.y.ended ≡ (thread_of m t).released + flag (thread_of m t).finished = ap (λ (z : Saved). z.ended) f.is ∙ begun-ended pick (saved program m t) in
       let same : pick.position ≡ h.y.ended = let released = p.position in omega arith in
-      put_step program m words r 5 (pick.position + 1) (machine_at pick stamp b ending e ReadTotal) h (λ c. refl) λ dirty fresh.
+      put_step program m words r 5 (pick.position + 1) (machine_at pick stamp b ending e ReadTotal) h (omega arith) (λ c. refl) λ dirty fresh.
       serving_at program m (store words (place_in t (working_mask b) 5) (pick.position + 1)) r e ReadTotal (finish h.y) h.sends h.s h.o h.v
       (holding_put program m words r 5 (pick.position + 1) (finish h.y) h.sends h.s h.o h.v h dirty fresh
       (λ k. ap (λ n. put (λ j. get_or (thread_words h.y h.s h.o h.v) j 0) 5 (n + 1) k) same ∙ words-finish h.y h.s h.o h.v k) h.logged h.sent h.size) (
@@ -133,7 +133,7 @@ module _ (program : Program) (m : Model) (words : Memory) (pick : Pick) (stamp :
       let made : y ≡ concluded ending pick.event.origin worked_here =
       ap (λ k. with_total ending k h.y) h.progress.2 ∙ (ap (λ z. counted ending z) f.is ∙ sym (concluded-last ending pick.event.origin worked_here h.progress.1))
       in
-      put_step program m words r (total_word ending) n (machine_at pick stamp b ending e WriteStamp) h (λ c. refl) λ dirty fresh.
+      put_step program m words r (total_word ending) n (machine_at pick stamp b ending e WriteStamp) h (let high = total_high ending in omega arith) (λ c. refl) λ dirty fresh.
       serving_at program m (store words (place_in pick.thread.0 (working_mask b) (total_word ending)) n) r e WriteStamp y h.sends h.s h.o h.v
       (holding_put program m words r (total_word ending) n y h.sends h.s h.o h.v h dirty fresh (words-total ending h.y h.s h.o h.v n)
       (subst (λ l. AreLogged (log_of words pick.thread.0) l) (sym (with_total-outputs ending n h.y)) h.logged) h.sent
@@ -145,7 +145,7 @@ module _ (program : Program) (m : Model) (words : Memory) (pick : Pick) (stamp :
       Serving program words m (machine_at pick stamp b k e WriteNext) → Steps program m words (machine_at pick stamp b k e WriteNext)
   rests_serving k zero_is after last h =
       let r : TaskMachine = machine_at pick stamp b k e WriteNext in
-      put_step program m words r 1 (next_by k) (machine_at pick stamp b k e (after_next k pick.event.origin)) h (λ c. refl) λ dirty fresh.
+      put_step program m words r 1 (next_by k) (machine_at pick stamp b k e (after_next k pick.event.origin)) h (omega arith) (λ c. refl) λ dirty fresh.
       let n : Memory = store words (place_in pick.thread.0 (working_mask b) 1) (next_by k) in
       subst (λ phase. Serving program n m (machine_at pick stamp b k e phase)) (sym after)
       (rested_serving n h.y h.sends h.s h.o h.v k pick.event.origin pick.event.value refl last
@@ -158,7 +158,7 @@ module _ (program : Program) (m : Model) (words : Memory) (pick : Pick) (stamp :
   next_serving (endings.Next task) h =
       let r : TaskMachine = machine_at pick stamp b (endings.Next task) e WriteNext in
       let y : Saved = record (h.y) { running = Some (record { 0 = task }) } in
-      put_step program m words r 1 (task + 1) (machine_at pick stamp b (endings.Next task) e WriteStamp) h (λ c. refl) λ dirty fresh.
+      put_step program m words r 1 (task + 1) (machine_at pick stamp b (endings.Next task) e WriteStamp) h (omega arith) (λ c. refl) λ dirty fresh.
       serving_at program m (store words (place_in pick.thread.0 (working_mask b) 1) (task + 1)) r e WriteStamp y h.sends h.s h.o h.v
       (holding_put program m words r 1 (task + 1) y h.sends h.s h.o h.v h dirty fresh (words-next h.y h.s h.o h.v task) h.logged h.sent h.size)
       (finishes_as (told program m r h.y h.sends h.s h.o h.v) worked_here y (concluded (endings.Next task) pick.event.origin worked_here) h.progress

@@ -57,7 +57,7 @@ module _ (program : Program) (readings : Readings) (m : Model) (words : Memory) 
   step-first h =
       let r : TaskMachine = machine_at pick stamp b ending e WriteFirst in
       let p = h.progress in
-      put_step program m words r 2 pick.time (machine_at pick stamp b ending e WriteOrigin) h (λ c. refl) λ dirty fresh.
+      put_step program m words r 2 pick.time (machine_at pick stamp b ending e WriteOrigin) h (omega arith) (λ c. refl) λ dirty fresh.
       serving_at program m (store words (place_in pick.thread.0 (working_mask b) 2) pick.time) r e WriteOrigin (record (h.y) { first = pick.time }) h.sends h.s h.o h.v
       (holding_put program m words r 2 pick.time (record (h.y) { first = pick.time }) h.sends h.s h.o h.v h dirty fresh (words-first h.y h.s h.o h.v pick.time) h.logged h.sent h.size)
       (record { idle = p.idle; early = p.early; is = ap (λ (z : Saved). record z { first = pick.time }) p.is; unsent = p.unsent; before = p.before })
@@ -67,7 +67,7 @@ module _ (program : Program) (readings : Readings) (m : Model) (words : Memory) 
       let r : TaskMachine = machine_at pick stamp b ending e WriteOrigin in
       let word : ℕ = origin_word pick.event.origin in
       let p = h.progress in
-      put_step program m words r 3 word (machine_at pick stamp b ending e WriteValue) h (λ c. refl) λ dirty fresh.
+      put_step program m words r 3 word (machine_at pick stamp b ending e WriteValue) h (omega arith) (λ c. refl) λ dirty fresh.
       serving_at program m (store words (place_in pick.thread.0 (working_mask b) 3) word) r e WriteValue h.y h.sends h.s word h.v
       (holding_put program m words r 3 word h.y h.sends h.s word h.v h dirty fresh (words-origin h.y h.s h.o h.v word) h.logged h.sent h.size)
       (record { idle = p.idle; early = p.early; is = p.is; unsent = p.unsent; before = p.before }, refl)
@@ -93,7 +93,7 @@ module _ (program : Program) (readings : Readings) (m : Model) (words : Memory) 
       let r : TaskMachine = machine_at pick stamp b ending e WriteValue in
       let n : Memory = store words (place_in pick.thread.0 (working_mask b) 4) pick.event.value in
       let p = h.progress.0 in
-      put_step program m words r 4 pick.event.value (after_value program r pick.event.origin) h (λ c. refl) λ dirty fresh.
+      put_step program m words r 4 pick.event.value (after_value program r pick.event.origin) h (omega arith) (λ c. refl) λ dirty fresh.
       let held : Holding program n m r h.y h.sends h.s h.o pick.event.value =
       holding_put program m words r 4 pick.event.value h.y h.sends h.s h.o pick.event.value h dirty fresh (words-value h.y h.s h.o h.v pick.event.value) h.logged h.sent h.size
       in value_serving accepted sound n h.y h.sends h.s pick.event.origin refl

@@ -14,6 +14,7 @@ use Rattle.task_isa.specs.declared.sent.Sent.{Sent}
 use Rattle.task_isa.specs.Acts.{Cpu, act_of}
 use Rattle.task_isa.specs.Meaning.{GoesOn, HasTrapped, execute, advance_with, instr_at}
 use Rattle.task_isa.specs.Code.{word_of_instr, decoded}
+use Rattle.task_isa.proofs.Codes.{decoded-word}
 use Rattle.prog_check.specs.Lookup.{thread_def}
 use Rattle.prog_check.specs.Accepted.{IsAccepted}
 use Rattle.ink_layout.specs.declared.pick.Pick.{Pick}
@@ -41,7 +42,7 @@ state_is p g = ap (λ (z : Saved). z.state) g.made
 pub holding_end : (program : Program) (m : Model) (words : Memory) (r : TaskMachine) (ending : Ending) (y : Saved) (sends : List Sent) (s o v : ℕ) →
     Holding program words m r y sends s o v → Holding program words m (record r { ending = ending }) y sends s o v
 holding_end program m words r ending y sends s o v h =
-    record { picked = h.picked; stamp = h.stamp; buffered = h.buffered; fresh = h.fresh; logged = h.logged; sent = h.sent; size = h.size }
+    record { picked = h.picked; stamp = h.stamp; buffered = h.buffered; fresh = h.fresh; logged = h.logged; sent = h.sent; pages = h.pages; size = h.size }
 
 module _ (program : Program) (m : Model) (words : Memory) (r : TaskMachine) (y : Saved) (sends : List Sent) (s o v : ℕ)
     (stands : StandsPrivate words program m) (shape : HasShape program m) (h : Holding program words m r y sends s o v)
@@ -106,7 +107,7 @@ module _ (program : Program) (m : Model) (words : Memory) (r : TaskMachine) (y :
       let a : Assignment = assignment program m r.pick in
       let word : words (Code r.execution.task.0 r.execution.at) ≡ word_of_instr (instr_at a.code r.execution.at) =
       ap (λ k. words (Code k r.execution.at)) g.task ∙ stands.code a.task r.execution.at known.known g.inside
-      in ap (λ w. decoded w) word ∙ (accepted.tasks a.task known.known).read_back r.execution.at g.inside
+      in ap (λ w. decoded w) word ∙ decoded-word (instr_at a.code r.execution.at) ((accepted.tasks a.task known.known).fits r.execution.at g.inside)
 
   pub fetch_serving : IsAccepted program → (readings : Readings) → IsSound program readings m →
       Serving program words m (after_fetch program r (instr_of (decoded (words (Code r.execution.task.0 r.execution.at)))))

@@ -1,5 +1,5 @@
 -- An access that keeps the committed copies, the code, the committed outputs and the items in the rings keeps what the words stand for.
-use Rattle.std.proofs.Common.{◌≡◌, ◌≢◌, ℕ, ◌+◌, ◌/◌, ◌%◌, ◌<◌, ◌≤◌, length, arith, refl, ap, ◌∙◌, sym, inl, inr, subst}
+use Rattle.std.proofs.Common.{◌≡◌, ◌≢◌, ℕ, ◌+◌, ◌/◌, ◌%◌, ◌^◌, ◌<◌, ◌≤◌, length, arith, refl, ap, ◌∙◌, sym, inl, inr, subst}
 use Rattle.std.proofs.lemmas.Bool.{cases_Bool, cases_eq, eqb-true}
 use Rattle.std.specs.Int.{bit_at}
 use Rattle.fram_words.specs.Places.{Place, Code, Commit, Page, Log, Ring, Tail, Slot, Clock, Memory, store, perform}
@@ -8,36 +8,39 @@ use Rattle.thread_state.specs.Pages.{committed, working_mask, Buffer, IsUnderWay
 use Rattle.push_core.proofs.Queues.{queue_same}
 use Rattle.thread_state.proofs.Pages.{copy_only, dirty_put_only, copy_committed, put_committed}
 use Rattle.task_isa.specs.declared.program.Program.{Program}
-use Rattle.prog_check.specs.Lookup.{pipe_def}
+use Rattle.prog_check.specs.Lookup.{thread_def, pipe_def}
+use Rattle.ink_layout.specs.Shape.{pages_of}
 use Rattle.never_cut.specs.declared.model.Model.{Model}
 use Rattle.never_cut.specs.State.{pipe_of}
 use Rattle.never_cut.specs.Commit.{outputs_of}
 use Rattle.never_cut.specs.Stands.{StandsThread, StandsPrivate}
 use Rattle.never_cut.specs.kept.Actors.{StandsForKernel}
 
-pub thread_frame : (program : Program) (words new : Memory) (m : Model) (t : ℕ) →
+pub thread_frame : (program : Program) (words new : Memory) (m : Model) (t : ℕ) → new (Commit t) ≡ words (Commit t) →
     ((w : ℕ) → committed new t w ≡ committed words t w) →
     ((k : ℕ) → k < length (outputs_of m t) → new (Log t k) ≡ words (Log t k)) →
     StandsThread words program m t → StandsThread new program m t
-thread_frame program words new m t pages log h = record {
+thread_frame program words new m t commit pages log h = record {
   stamp = h.stamp;
   origin = h.origin;
   value = h.value;
   block = λ w. pages w ∙ h.block w;
   event = h.event;
   log = λ k within. log k within ∙ h.log k within;
+  reached = h.reached;
+  pages = subst (λ c. c < 2 ^ pages_of (thread_def program t)) (sym commit) h.pages;
 }
 
 pub private_frame : (program : Program) (words new : Memory) (m : Model) →
-    ((x k : ℕ) → new (Code x k) ≡ words (Code x k)) →
+    ((x k : ℕ) → new (Code x k) ≡ words (Code x k)) → ((t : ℕ) → new (Commit t) ≡ words (Commit t)) →
     ((t w : ℕ) → committed new t w ≡ committed words t w) →
     ((t k : ℕ) → k < length (outputs_of m t) → new (Log t k) ≡ words (Log t k)) →
     ((q k : ℕ) → q < length program.pipes → k < length (pipe_of m q).items →
     let n = ((pipe_of m q).taken + k) % (pipe_def program q).places in new (Ring q n) ≡ words (Ring q n)) →
     StandsPrivate words program m → StandsPrivate new program m
-private_frame program words new m code pages log ring h = record {
+private_frame program words new m code commit pages log ring h = record {
   code = λ x k lt within. code x k ∙ h.code x k lt within;
-  threads = λ t lt. thread_frame program words new m t (pages t) (log t) (h.threads t lt);
+  threads = λ t lt. thread_frame program words new m t (commit t) (pages t) (log t) (h.threads t lt);
   stamps = λ t lt. rw (pages t 0) (h.stamps t lt);
   newest = elim h.newest [ inl e ↦ inl e | inr e ↦ inr (e.0, e.1, pages e.0 0 ∙ e.2) ];
   pipes = λ q lt k within. ring q k lt within ∙ h.pipes q lt k within;
@@ -87,6 +90,7 @@ pub put_step_private : (program : Program) (words : Memory) (m : Model) (t : ℕ
 put_step_private program words m t b u v is under h =
     private_frame program words (perform words (put_access t b u v)) m
     (λ x k. put_step_only words t b u v (Code x k) tt)
+    (λ x. put_step_only words t b u v (Commit x) tt)
     (put_step_committed words t b u v is under)
     (λ x k within. put_step_only words t b u v (Log x k) tt)
     (λ q k known within. put_step_only words t b u v (Ring q (((pipe_of m q).taken + k) % (pipe_def program q).places)) tt)
@@ -107,6 +111,7 @@ pub log_step_private : (program : Program) (words : Memory) (m : Model) (t n v :
 log_step_private program words m t n v beyond h =
     private_frame program words (store words (Log t n) v) m
     (λ x k. refl)
+    (λ x. refl)
     (λ x w. refl)
     (λ x k within. store-other words (Log t n) (Log x k) v λ e.
     let same : t ≡ x = cc in let at : n ≡ k = cc in
@@ -125,6 +130,7 @@ pub ring_step_private : (program : Program) (words : Memory) (m : Model) (q n v 
 ring_step_private program words m q n v free h =
     private_frame program words (store words (Ring q n) v) m
     (λ x k. refl)
+    (λ x. refl)
     (λ x w. refl)
     (λ x k within. refl)
     (λ u k known within. store-other words (Ring q n) (Ring u (((pipe_of m u).taken + k) % (pipe_def program u).places)) v λ e.

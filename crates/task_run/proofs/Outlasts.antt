@@ -76,6 +76,7 @@ follow_serving program words new m next r same f h =
       logged = subst (λ l. AreLogged l h.y.outputs) log h.logged;
       sent = subst (λ p. AreSent (rings_of new) program p h.sends) (sym f.pipes) (sent_frame words new program m h.sends ring h.sent);
       size = h.size;
+      pages = h.pages;
       progress =
           subst (λ x. Progress new (record old { x = x; a = assignment program next r.pick; pipes = next.pipes }) r.phase) (sym ((follow_privately program m next f).saves t))
           (subst (λ a. Progress new (record old { a = a; pipes = next.pipes }) r.phase) (sym (assignment-follows program m next r.pick f))

@@ -109,12 +109,12 @@ module _ (program : Program) (readings : Readings) (m : Model) (words : Memory) 
   resume_late is =
       let word : ℕ = answer words (put_access pick.thread.0 b 1 0) in
       rw is
-      (put_step program m words r 1 0 (machine.after_resume program r late word) h (λ c. rw is refl) λ dirty fresh.
+      (put_step program m words r 1 0 (machine.after_resume program r late word) h (omega arith) (λ c. rw is refl) λ dirty fresh.
       let n : Memory = store words (place_in pick.thread.0 (working_mask b) 1) 0 in
       subst (λ c. Serving program n m (machine.after_resume program r c word)) (sym is)
       (rested_serving program m n pick stamp b endings.Expired e n h.y h.sends h.s h.o h.v endings.Expired pick.event.origin pick.event.value refl tt
       (let held = holding_put program m words r 1 0 (rested h.y) h.sends h.s h.o h.v h dirty fresh (words-rested h.y h.s h.o h.v) h.logged h.sent h.size in
-      record { picked = held.picked; stamp = held.stamp; buffered = held.buffered; fresh = held.fresh; logged = held.logged; sent = held.sent; size = held.size })
+      record { picked = held.picked; stamp = held.stamp; buffered = held.buffered; fresh = held.fresh; logged = held.logged; sent = held.sent; size = held.size; pages = held.pages })
       (expires_as is)))
 
   resume_early : late ≡ false → Steps program m words r

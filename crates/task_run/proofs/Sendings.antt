@@ -127,6 +127,7 @@ module _ (program : Program) (m : Model) (words : Memory) (pick : Pick) (stamp :
             free_word program m h.y h.sends q u k written (sent_to q g.effects.sends) sent h.progress.count h.progress.room within same index)
             ∙ h.sent u k known within;
         size = h.size;
+        pages = h.pages;
       })
       (h.progress, store-same words (Ring q (ring_index places written)) s.value)
 
@@ -149,7 +150,7 @@ module _ (program : Program) (m : Model) (words : Memory) (pick : Pick) (stamp :
       let room : has_room (assignment program m pick).room q g.effects.sends ≡ true =
       room_left program m q written (sent_to q g.effects.sends) known h.progress.0.room (h.progress.0.count ∙ sent.written)
       in
-      put_step program m words r (header.written q) (written + 1) (proceed program r next) h (λ c. refl) λ dirty fresh.
+      put_step program m words r (header.written q) (written + 1) (proceed program r next) h (omega arith) (λ c. refl) λ dirty fresh.
       let n : Memory = store words (place_in pick.thread.0 (working_mask b) (header.written q)) (written + 1) in
       let stands' : StandsPrivate n program m = rw (is_dirty-true b (header.written q / 8) dirty) at stands in
       proceed_serving program m n r next y (h.sends ++ item ∷ []) h.s h.o h.v stands' shape

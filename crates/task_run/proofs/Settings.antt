@@ -54,7 +54,7 @@ module _ (program : Program) (m : Model) (words : Memory) (pick : Pick) (stamp :
       let y : Saved = with_due h.y timer (armed pick.time delay) in
       let few : length program.timers ≤ 8 = accepted.counts.timers in
       let known : timer < length program.timers = h.progress.known in
-      put_step program m words r (header.due timer) (armed pick.time delay) (machine_at pick stamp b ending e (WritePeriod timer period)) h (λ c. refl) λ dirty fresh.
+      put_step program m words r (header.due timer) (armed pick.time delay) (machine_at pick stamp b ending e (WritePeriod timer period)) h (omega arith) (λ c. refl) λ dirty fresh.
       serving_at program m (store words (place_in pick.thread.0 (working_mask b) (header.due timer)) (armed pick.time delay)) r e (WritePeriod timer period) y h.sends h.s h.o h.v
       (holding_put program m words r (header.due timer) (armed pick.time delay) y h.sends h.s h.o h.v h dirty fresh
       (λ k. words-due h.y h.s h.o h.v timer (armed pick.time delay) k (omega arith)) h.logged h.sent h.size)
@@ -77,7 +77,7 @@ module _ (program : Program) (m : Model) (words : Memory) (pick : Pick) (stamp :
       let few : length program.timers ≤ 8 = accepted.counts.timers in
       let known : timer < length program.timers = arming.known in
       let next : Cpu = advance (cpu_of e) in
-      put_step program m words r (header.period timer) period (proceed program r next) h (λ c. refl) λ dirty fresh.
+      put_step program m words r (header.period timer) period (proceed program r next) h (omega arith) (λ c. refl) λ dirty fresh.
       let n : Memory = store words (place_in pick.thread.0 (working_mask b) (header.period timer)) period in
       let stands' : StandsPrivate n program m = rw (is_dirty-true b (header.period timer / 8) dirty) at stands in
       proceed_serving program m n r next y h.sends h.s h.o h.v stands' shape
@@ -98,7 +98,7 @@ module _ (program : Program) (m : Model) (words : Memory) (pick : Pick) (stamp :
       let few : length program.timers ≤ 8 = accepted.counts.timers in
       let known : timer < length program.timers = h.progress.1 in
       let next : Cpu = advance (cpu_of e) in
-      put_step program m words r (header.due timer) 0 (proceed program r next) h (λ c. refl) λ dirty fresh.
+      put_step program m words r (header.due timer) 0 (proceed program r next) h (omega arith) (λ c. refl) λ dirty fresh.
       let n : Memory = store words (place_in pick.thread.0 (working_mask b) (header.due timer)) 0 in
       let stands' : StandsPrivate n program m = rw (is_dirty-true b (header.due timer / 8) dirty) at stands in
       proceed_serving program m n r next y h.sends h.s h.o h.v stands' shape

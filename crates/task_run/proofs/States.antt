@@ -82,7 +82,7 @@ module _ (program : Program) (m : Model) (words : Memory) (pick : Pick) (stamp :
       let next : Cpu = advance (cpu_of e) in
       let y : Saved = record (h.y) { state = set h.y.state n v } in
       let effects : Effects = record (g.effects) { state = set g.effects.state n v } in
-      put_step program m words r (header.state n) v (proceed program r next) h (λ k. refl) λ dirty fresh.
+      put_step program m words r (header.state n) v (proceed program r next) h (let lt = h.progress.1 in let size = h.size in omega arith) (λ k. refl) λ dirty fresh.
       let n' : Memory = store words (place_in pick.thread.0 (working_mask b) (header.state n)) v in
       let stands' : StandsPrivate n' program m = rw (is_dirty-true b (header.state n / 8) dirty) at stands in
       proceed_serving program m n' r next y h.sends h.s h.o h.v stands' shape
@@ -138,6 +138,7 @@ module _ (program : Program) (m : Model) (words : Memory) (pick : Pick) (stamp :
         logged = λ k lt. store-other words (Log t n) (Log t k) word (λ q. let at : n ≡ k = cc in absurd (omega arith)) ∙ h.logged k lt;
         sent = h.sent;
         size = h.size;
+        pages = h.pages;
       })
       (w, h.progress.0, ap (λ k. k + 1) is, h.progress.2, ap (λ k. n' (Log t k)) (sym is) ∙ store-same words (Log t n) word)
 
@@ -163,7 +164,7 @@ module _ (program : Program) (m : Model) (words : Memory) (pick : Pick) (stamp :
       let room : length outs < a.room.log = let lt : length old < length x.outputs + a.room.log = h.progress.3 in omega arith in
       let next : Cpu = advance (cpu_of e) in
       let z : Saved = begun pick x in
-      put_step program m words r 9 k (proceed program r next) h (λ c. refl) λ dirty fresh.
+      put_step program m words r 9 k (proceed program r next) h (omega arith) (λ c. refl) λ dirty fresh.
       let n : Memory = store words (place_in t (working_mask b) 9) k in
       let stands' : StandsPrivate n program m = rw (is_dirty-true b 1 dirty) at stands in
       proceed_serving program m n r next y h.sends h.s h.o h.v stands' shape

@@ -23,6 +23,7 @@ use Rattle.never_cut.specs.Pending.{pending_in}
 use Rattle.never_cut.specs.Stands.{Saved, saved, StandsPrivate, StandsThread}
 use Rattle.never_cut.specs.Sound.{HasShape}
 use Rattle.never_cut.specs.kept.Picked.{IsPicked}
+use Rattle.never_cut.proofs.Privates.{no_pages}
 use Rattle.task_run.specs.declared.ending.Ending.{Ending}
 use Rattle.task_run.specs.declared.ending.Ending.TheVariants as endings
 use Rattle.task_run.specs.declared.phase.Phase.TheVariants.{WriteFirst, Fetch, WriteNext}
@@ -127,6 +128,7 @@ module _ (program : Program) (m : Model) (words : Memory) (r : TaskMachine) (sta
         logged = x.log;
         sent = unsent program m words stands;
         size = shape.states t picked.known;
+        pages = no_pages program t;
       }
 
   by_running : (running : Option TaskId) → r.pick.running ≡ running → Serving program words m (record given_up { phase = phase_again running })

@@ -152,3 +152,16 @@ words-of_due y s o v = below_eight (λ j. get_or (thread_words y s o v) (26 + 2 
 pub words-of_period : (y : Saved) (s o v j : ℕ) → j < 8 → get_or (thread_words y s o v) (27 + 2 * j) 0 ≡ y.period j
 unfolding thread_words
 words-of_period y s o v = below_eight (λ j. get_or (thread_words y s o v) (27 + 2 * j) 0 ≡ y.period j) refl refl refl refl refl refl refl refl
+
+-- the header words of totals
+pub total_low : (ending : Ending) → header.served ≤ total_word ending
+total_low (endings.Next task) = omega arith
+total_low endings.Done = omega arith
+total_low endings.Trapped = omega arith
+total_low endings.Expired = omega arith
+
+pub total_high : (ending : Ending) → total_word ending ≤ header.expired
+total_high (endings.Next task) = omega arith
+total_high endings.Done = omega arith
+total_high endings.Trapped = omega arith
+total_high endings.Expired = omega arith

@@ -20,6 +20,7 @@ use Rattle.task_isa.specs.Acts.{Given, act_of, number_of}
 use Rattle.task_isa.specs.Meaning.{Effects, Config, Room, RunEnd, Ended, Trapped, instr_at, run, run_of, task_end, given_of, room_of, no_effects, sent_to}
 use Rattle.prog_check.specs.Lookup.{thread_def, pipe_def, task_def}
 use Rattle.ink_layout.specs.declared.pick.Pick.{Pick}
+use Rattle.ink_layout.specs.Shape.{pages_of}
 use Rattle.never_cut.specs.declared.model.Model.{Model}
 use Rattle.never_cut.specs.declared.pipe_model.PipeModel.{PipeModel}
 use Rattle.never_cut.specs.State.{no_pipe}
@@ -388,4 +389,6 @@ pub record Serving (program : Program) (words : Memory) (m : Model) (r : TaskMac
   pub logged : AreLogged (log_of words r.pick.thread.0) y.outputs
   pub sent : AreSent (rings_of words) program m.pipes sends
   pub size : length y.state ≡ (thread_def program r.pick.thread.0).state
+  -- the pages that were written are the thread's
+  pub pages : r.buffer.dirty < 2 ^ pages_of (thread_def program r.pick.thread.0)
   pub progress : Progress words (told program m r y sends s o v) r.phase

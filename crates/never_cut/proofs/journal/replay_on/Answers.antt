@@ -35,7 +35,7 @@ returns-clause-each_once c =
 
 pub returns-clause-stamps : goal.returns-clause-stamps
 returns-clause-stamps c =
-    stamps_by_commits c.args.program.now c.args.readings.now (model_of c.args.first) c.args.entries.now c.requires.start.stamps
+    stamps_by_commits c.args.program.now c.args.readings.now (model_of c.args.first) c.args.entries.now c.requires.start.sound.stamps
     (replayed c.program-program.result.now c.args.program.now c.args.readings.now (model_of c.args.first) c.args.entries.now c.loop-n.n (model_of c.loop-n.state) c.program-program.ensures.same c.loop-n.invariant c.loop-n-test.false)
 
 pub returns-clause-states : goal.returns-clause-states

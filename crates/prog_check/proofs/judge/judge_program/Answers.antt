@@ -8,4 +8,4 @@ pub returns-clause-accepted : goal.returns-clause-accepted
 unfolding first_fault
 returns-clause-accepted c =
     let none : first_fault c.args.program.now c.args.lines.now ≡ None = rw (← c.in_ok-judge_limits.ensures.fault, ← c.in_ok-judge_meaning.ensures) refl in
-    accepted_of c.args.program.now c.args.lines.now none c.in_ok-judge_limits.ensures.priorities c.in_ok-judge_limits.ensures.read_back
+    accepted_of c.args.program.now c.args.lines.now none c.in_ok-judge_limits.ensures.priorities c.in_ok-judge_limits.ensures.fits
