@@ -29,6 +29,7 @@ pub word_there : (s : Shape) (words : List ℕ) (p : Place) → is_valid s p ≡
 word_there s words p valid = sym (ap (λ (b : Bool). cond b (get_or words (address s p) 0) 0) valid)
 
 pub address_same : (s : Shape) (a : Access) → address_of (at_address s a) ≡ address s (place_of a)
+address_same s (Load p) = refl
 address_same s _ = refl
 
 pub finds_there : (s : Shape) (words : List ℕ) (a : Access) → is_valid s (place_of a) ≡ true → slice_index words (address_of (at_address s a)) ≡ answer (memory_of s words) a

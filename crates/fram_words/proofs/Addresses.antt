@@ -54,12 +54,17 @@ HasIndices s _ = Unit {0}
 
 indices : (s : Shape) (p : Place) → has_indices s p ≡ true → HasIndices s p
 unfolding HasIndices
+indices s (Code x n) h = ltb-true _ _ h
+indices s (Commit t) h = ltb-true _ _ h
 indices s (Page t p b k) h =
     let a = and_parts (nat_lt t (length s.threads)) (nat_lt b 2 && nat_lt k 8) h in
     let c = and_parts (nat_lt b 2) (nat_lt k 8) a.1 in
     (ltb-true _ _ a.0, ltb-true _ _ c.0, ltb-true _ _ c.1)
+indices s (Log t n) h = ltb-true _ _ h
+indices s (Ring q n) h = ltb-true _ _ h
+indices s (Tail t) h = ltb-true _ _ h
+indices s (Slot t n) h = ltb-true _ _ h
 indices s _ h = tt
-indices s _ h = ltb-true _ _ h
 
 same_region : (s : Shape) (p q : Place) → HasIndices s p → HasIndices s q → region s p ≡ region s q → offset p ≡ offset q → p ≡ q
 unfolding HasIndices

@@ -14,7 +14,10 @@ divided_fits divisor register value =
 
 pub act_of_fits : (instr : Instr) (given : Given) (cpu : Cpu) → HasFittingId instr → NamesFittingId (act_of instr given cpu)
 unfolding act_of
+act_of_fits (Send i a b) given cpu fits = fits
+act_of_fits (Arm i a b) given cpu fits = fits
+act_of_fits (Stop i) given cpu fits = fits
+act_of_fits (Next i) given cpu fits = fits
 act_of_fits (Divu a b c) given cpu fits = divided_fits (reg cpu c) a (reg cpu b / reg cpu c)
 act_of_fits (Remu a b c) given cpu fits = divided_fits (reg cpu c) a (reg cpu b % reg cpu c)
 act_of_fits _ given cpu fits = tt
-act_of_fits _ given cpu fits = fits
