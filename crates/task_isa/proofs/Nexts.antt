@@ -1,10 +1,10 @@
 -- A task goes on with a task that its code names.
-use Rattle.std.proofs.Common.{◌≡◌, ℕ, zero, suc, ◌<◌, ◌≤◌, ◌/◌, ◌%◌, Bool, true, false, List, length, inl, inr, subst, sym}
+use Rattle.std.proofs.Common.{ℕ, zero, suc, ◌<◌, ◌/◌, ◌%◌, Bool, true, false, List, length, inl, inr, subst, sym}
 use Rattle.std.specs.Prelude.{◌==◌, if◌then◌else◌, nat_lt}
 use Rattle.std.proofs.lemmas.Bool.{cases_lt}
 use Rattle.std.proofs.lemmas.List.{get_or_past}
 use Rattle.task_isa.specs.declared.act.Act.{Act}
-use Rattle.task_isa.specs.declared.act.Act.TheVariants.{Sets, Loads, Saves, Puts, Sends, Continues, Traps, Ends, Goes, Arms, Stops}
+use Rattle.task_isa.specs.declared.act.Act.TheVariants.{Sets, Loads, Saves, Puts, Sends, Continues, Traps}
 use Rattle.task_isa.specs.declared.instr.Instr.{Instr}
 use Rattle.task_isa.specs.declared.instr.Instr.TheVariants.{Divu, Remu, Next, Done}
 use Rattle.task_isa.specs.declared.outcome.Outcome.{Outcome}
