@@ -30,9 +30,7 @@ word_there s words p valid = sym (ap (λ (b : Bool). cond b (get_or words (addre
 
 pub address_same : (s : Shape) (a : Access) → address_of (at_address s a) ≡ address s (place_of a)
 address_same s (Load p) = refl
-address_same s (Store p v) = refl
-address_same s (Exchange p e v) = refl
-address_same s (Add p n) = refl
+address_same s _ = refl
 
 pub finds_there : (s : Shape) (words : List ℕ) (a : Access) → is_valid s (place_of a) ≡ true → slice_index words (address_of (at_address s a)) ≡ answer (memory_of s words) a
 finds_there s words a valid = ap (λ (n : ℕ). get_or words n 0) (address_same s a) ∙ word_there s words (place_of a) valid

@@ -17,16 +17,8 @@ same_place-true (Src i) (Src j) e = grind (arith, eqb-true, and_parts)
 same_place-true _ _ e = cc
 
 pub same_place-refl : (p : Place) → same_place p p ≡ true
-same_place-refl (Code x n) = grind arith
-same_place-refl (Commit t) = grind arith
-same_place-refl (Page t p b n) = grind arith
-same_place-refl (Log t n) = grind arith
-same_place-refl (Ring q n) = grind arith
-same_place-refl (Tail t) = grind arith
-same_place-refl (Slot t n) = grind arith
-same_place-refl (Ack i) = grind arith
 same_place-refl Clock = refl
-same_place-refl (Src i) = grind arith
+same_place-refl _ = grind arith
 
 pub store-same : (m : Memory) (p : Place) (v : ℕ) → store m p v p ≡ v
 store-same m p v = rw (same_place-refl p)

@@ -15,10 +15,12 @@ pub record Shape : Type 0 where
   pub queues : List ℕ
   pub sources : ℕ
 
+-- of each thread its commit word, both copies of its pages, and its outputs
 abbrev pub thread_regions : List ThreadShape → List ℕ
 thread_regions [] = []
 thread_regions (x ∷ xs) = 1 ∷ 16 * x.pages ∷ x.log ∷ thread_regions xs
 
+-- of each queue its tail and its slots
 abbrev pub queue_regions : List ℕ → List ℕ
 queue_regions [] = []
 queue_regions (n ∷ ns) = 1 ∷ n ∷ queue_regions ns
@@ -40,6 +42,7 @@ region s (Ack i) = length s.tasks + 3 * length s.threads + length s.pipes + 2 * 
 region s Clock = length s.tasks + 3 * length s.threads + length s.pipes + 2 * length s.queues + 1
 region s (Src i) = length s.tasks + 3 * length s.threads + length s.pipes + 2 * length s.queues + 2
 
+-- how far a place lies behind the first word of its region
 abbrev pub offset : Place → ℕ
 offset (Code x n) = n
 offset (Commit t) = 0
@@ -65,6 +68,7 @@ has_indices s (Ack i) = true
 has_indices s Clock = true
 has_indices s (Src i) = true
 
+-- the board has the place: its indices are those of the shape, and it lies within its region
 abbrev pub is_valid : Shape → Place → Bool
 is_valid s p = has_indices s p && nat_lt (offset p) (slice_index (regions s) (region s p))
 
@@ -74,6 +78,7 @@ words_before xs zero = 0
 words_before [] (suc i) = 0
 words_before (x ∷ xs) (suc i) = x + words_before xs i
 
+-- regions stand one after another from address 0
 unfoldable pub address : Shape → Place → ℕ
 address s p = words_before (regions s) (region s p) + offset p
 

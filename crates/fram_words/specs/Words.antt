@@ -3,6 +3,7 @@ use Rattle.std.specs.Prelude.{ℕ, ◌+◌, ◌^◌, ◌<◌, ◌==◌, List, re
 use Rattle.fram_words.specs.declared.access.Access.{Access}
 use Rattle.fram_words.specs.declared.access.Access.TheVariants.{Load, Store, Exchange, Add}
 
+-- the address that an access is made at
 abbrev pub address_of : Access → ℕ
 address_of (Load addr) = addr
 address_of (Store addr word) = addr
@@ -21,5 +22,6 @@ abbrev pub FitsWords : List ℕ → Access → Type 0
 FitsWords words (Add addr by) = slice_index words addr + by < 2 ^ 64
 FitsWords words _ = Unit {0}
 
+-- a new memory of so many words
 abbrev pub zeros : ℕ → List ℕ
 zeros n = replicate n 0

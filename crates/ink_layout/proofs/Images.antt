@@ -117,15 +117,7 @@ pub blocks_next : (program : Program) (j t due_at period_at due period : ℕ) �
     with_blocks program (put_word (put_word (timed_word program j) t due_at due) t period_at period) q ≡ with_blocks program (timed_word program (j + 1)) q
 blocks_next program j t due_at period_at due period first second t_is due_is period_is (Page u p b k) h =
     rw (first, second) (timed_next program j t due period u (8 * p + k) t_is due_is period_is)
-blocks_next program j t due_at period_at due period first second t_is due_is period_is (Code y m) h = refl
-blocks_next program j t due_at period_at due period first second t_is due_is period_is (Commit u) h = refl
-blocks_next program j t due_at period_at due period first second t_is due_is period_is (Log u k) h = refl
-blocks_next program j t due_at period_at due period first second t_is due_is period_is (Ring u k) h = refl
-blocks_next program j t due_at period_at due period first second t_is due_is period_is (Tail u) h = refl
-blocks_next program j t due_at period_at due period first second t_is due_is period_is (Slot u k) h = refl
-blocks_next program j t due_at period_at due period first second t_is due_is period_is (Ack i) h = refl
-blocks_next program j t due_at period_at due period first second t_is due_is period_is Clock h = refl
-blocks_next program j t due_at period_at due period first second t_is due_is period_is (Src i) h = refl
+blocks_next program j t due_at period_at due period first second t_is due_is period_is _ h = refl
 
 -- once all timers are written
 pub holds_first : (program : Program) (words : List ℕ) → Holds program words (with_blocks program (timed_word program (length program.timers))) → IsFirstImage program words

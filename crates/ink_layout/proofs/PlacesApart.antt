@@ -28,11 +28,7 @@ private_first program (Commit t) on is = omega (arith, region_is program (Commit
 private_first program (Page t page copy k) on is = omega (arith, region_is program (Page t page copy k))
 private_first program (Log t n) on is = omega (arith, region_is program (Log t n))
 private_first program (Ring q n) on is = omega (arith, region_is program (Ring q n))
-private_first program (Tail t) on is = cc
-private_first program (Slot t n) on is = cc
-private_first program (Ack i) on is = cc
-private_first program Clock on is = cc
-private_first program (Src i) on is = cc
+private_first program _ on is = cc
 
 -- and that of a shared place doesn't
 shared_last : (program : Program) (p : Place) → is_shared p ≡ true → queues_from program ≤ region (shape_of program) p

@@ -157,9 +157,7 @@ module _ (program : Program) where
   indices_of (Ring q n) h = lt-ltb _ _ (omega (arith, lengths.rings))
   indices_of (Tail t) h = lt-ltb _ _ (omega (arith, lengths.words))
   indices_of (Slot t n) h = lt-ltb _ _ (omega (arith, lengths.words))
-  indices_of (Ack i) h = refl
-  indices_of Clock h = refl
-  indices_of (Src i) h = refl
+  indices_of _ h = refl
 
   pub valid : (p : Place) → IsOnBoard program p → is_valid (shape_of program) p ≡ true
   valid p h = and_from _ _ (indices_of p h) (lt-ltb _ _ (room_of p h))
@@ -187,15 +185,13 @@ module _ (program : Program) where
 
   pub region_is : (p : Place) → region (shape_of program) p ≡ region_number p
   region_is (Code x n) = refl
-  region_is (Commit t) = omega (arith, lengths.tasks)
-  region_is (Page t p b k) = omega (arith, lengths.tasks)
-  region_is (Log t n) = omega (arith, lengths.tasks)
   region_is (Ring q n) = omega (arith, lengths.tasks, lengths.shapes)
   region_is (Tail t) = omega (arith, lengths.tasks, lengths.shapes, lengths.rings)
   region_is (Slot t n) = omega (arith, lengths.tasks, lengths.shapes, lengths.rings)
   region_is (Ack i) = omega (arith, lengths.tasks, lengths.shapes, lengths.rings, lengths.words)
   region_is Clock = omega (arith, lengths.tasks, lengths.shapes, lengths.rings, lengths.words)
   region_is (Src i) = omega (arith, lengths.tasks, lengths.shapes, lengths.rings, lengths.words)
+  region_is _ = omega (arith, lengths.tasks)
 
   -- there is a region of the place
   pub region_there : (p : Place) → IsOnBoard program p → region (shape_of program) p < length (regions (shape_of program))

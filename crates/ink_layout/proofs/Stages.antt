@@ -33,42 +33,18 @@ code_word program x n = word_of_instr (instr_at (task_def program x) n)
 
 pub code_next : (program : Program) (x n : ℕ) (q : Place) → store (code_until program x n) (Code x n) (code_word program x n) q ≡ code_until program x (n + 1) q
 code_next program x n (Code y m) = rows_step (code_word program) x n y m
-code_next program x n (Commit u) = refl
-code_next program x n (Page u p b k) = refl
-code_next program x n (Log u k) = refl
-code_next program x n (Ring u k) = refl
-code_next program x n (Tail u) = refl
-code_next program x n (Slot u k) = refl
-code_next program x n (Ack i) = refl
-code_next program x n Clock = refl
-code_next program x n (Src i) = refl
+code_next program x n _ = refl
 
 pub code_end : (program : Program) (x : ℕ) (q : Place) → IsOnBoard program q →
     code_until program x (length (task_def program x).code) q ≡ code_until program (x + 1) 0 q
 code_end program x (Code y m) h =
     rows_end (code_word program) x (length (task_def program x).code) y m
     (λ e. let same : length (task_def program y).code ≡ length (task_def program x).code = ap (λ z. length (task_def program z).code) e in omega (arith, h.1))
-code_end program x (Commit u) h = refl
-code_end program x (Page u p b k) h = refl
-code_end program x (Log u k) h = refl
-code_end program x (Ring u k) h = refl
-code_end program x (Tail u) h = refl
-code_end program x (Slot u k) h = refl
-code_end program x (Ack i) h = refl
-code_end program x Clock h = refl
-code_end program x (Src i) h = refl
+code_end program x _ h = refl
 
 pub code_none : (program : Program) (q : Place) → 0 ≡ code_until program 0 0 q
 code_none program (Code y m) = rows_none (code_word program) y m
-code_none program (Commit u) = refl
-code_none program (Page u p b k) = refl
-code_none program (Log u k) = refl
-code_none program (Ring u k) = refl
-code_none program (Tail u) = refl
-code_none program (Slot u k) = refl
-code_none program (Ack i) = refl
-code_none program Clock = refl
-code_none program (Src i) = refl
+code_none program _ = refl
 
 abbrev slot_word : ℕ → ℕ → ℕ
 slot_word t n = empty_word n
@@ -76,41 +52,18 @@ slot_word t n = empty_word n
 pub slots_none : (program : Program) (q : Place) → IsOnBoard program q → code_until program (length program.tasks) 0 q ≡ slots_until program 0 0 q
 slots_none program (Code y m) h = rows_all (code_word program) (length program.tasks) y m h.0
 slots_none program (Slot u k) h = rows_none slot_word u k
-slots_none program (Commit u) h = refl
-slots_none program (Page u p b k) h = refl
-slots_none program (Log u k) h = refl
-slots_none program (Ring u k) h = refl
-slots_none program (Tail u) h = refl
-slots_none program (Ack i) h = refl
-slots_none program Clock h = refl
-slots_none program (Src i) h = refl
+slots_none program _ h = refl
 
 pub slots_next : (program : Program) (t n : ℕ) (q : Place) → store (slots_until program t n) (Slot t n) (empty_word n) q ≡ slots_until program t (n + 1) q
 slots_next program t n (Slot u m) = rows_step slot_word t n u m
-slots_next program t n (Code y m) = refl
-slots_next program t n (Commit u) = refl
-slots_next program t n (Page u p b k) = refl
-slots_next program t n (Log u k) = refl
-slots_next program t n (Ring u k) = refl
-slots_next program t n (Tail u) = refl
-slots_next program t n (Ack i) = refl
-slots_next program t n Clock = refl
-slots_next program t n (Src i) = refl
+slots_next program t n _ = refl
 
 pub slots_end : (program : Program) (t : ℕ) (q : Place) → IsOnBoard program q →
     slots_until program t (thread_def program t).queue q ≡ slots_until program (t + 1) 0 q
 slots_end program t (Slot u m) h =
     rows_end slot_word t (thread_def program t).queue u m
     (λ e. let same : (thread_def program u).queue ≡ (thread_def program t).queue = ap (λ z. (thread_def program z).queue) e in omega (arith, h.1))
-slots_end program t (Code y m) h = refl
-slots_end program t (Commit u) h = refl
-slots_end program t (Page u p b k) h = refl
-slots_end program t (Log u k) h = refl
-slots_end program t (Ring u k) h = refl
-slots_end program t (Tail u) h = refl
-slots_end program t (Ack i) h = refl
-slots_end program t Clock h = refl
-slots_end program t (Src i) h = refl
+slots_end program t _ h = refl
 
 -- before the first timer
 timed_none : (program : Program) (t w : ℕ) → 0 ≡ timed_word program 0 t w
@@ -119,14 +72,7 @@ timed_none program t w = grind (arith, nat_tests)
 pub blocks_none : (program : Program) (q : Place) → IsOnBoard program q → slots_until program (length program.threads) 0 q ≡ with_blocks program (timed_word program 0) q
 blocks_none program (Slot u m) h = rows_all slot_word (length program.threads) u m h.0
 blocks_none program (Page u p b k) h = timed_none program u (8 * p + k)
-blocks_none program (Code y m) h = refl
-blocks_none program (Commit u) h = refl
-blocks_none program (Log u k) h = refl
-blocks_none program (Ring u k) h = refl
-blocks_none program (Tail u) h = refl
-blocks_none program (Ack i) h = refl
-blocks_none program Clock h = refl
-blocks_none program (Src i) h = refl
+blocks_none program _ h = refl
 
 -- both copies of a word
 both_copies : (block : ℕ → ℕ → ℕ) (t w value u p b k : ℕ) → b < 2 → k < 8 →
@@ -137,12 +83,4 @@ both_copies block t w value u p b k two eight = grind (arith, nat_tests)
 pub blocks_put : (program : Program) (block : ℕ → ℕ → ℕ) (t w value : ℕ) (q : Place) → IsOnBoard program q →
     store (store (with_blocks program block) (Page t (w / 8) 0 (w % 8)) value) (Page t (w / 8) 1 (w % 8)) value q ≡ with_blocks program (put_word block t w value) q
 blocks_put program block t w value (Page u p b k) h = both_copies block t w value u p b k h.2 h.3
-blocks_put program block t w value (Slot u m) h = refl
-blocks_put program block t w value (Code y m) h = refl
-blocks_put program block t w value (Commit u) h = refl
-blocks_put program block t w value (Log u k) h = refl
-blocks_put program block t w value (Ring u k) h = refl
-blocks_put program block t w value (Tail u) h = refl
-blocks_put program block t w value (Ack i) h = refl
-blocks_put program block t w value Clock h = refl
-blocks_put program block t w value (Src i) h = refl
+blocks_put program block t w value _ h = refl

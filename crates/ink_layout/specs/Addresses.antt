@@ -11,12 +11,15 @@ use Rattle.fram_words.specs.Places.{Place, Code, Commit, Page, Log, Ring, Tail, 
 abbrev pub no_thread_place : ThreadPlace
 no_thread_place = record { commit = 0; first = 0; words = 0; log = 0 }
 
+-- and for those of a queue
 abbrev pub no_queue_place : QueuePlace
 no_queue_place = record { tail = 0; slots = 0; places = 0 }
 
+-- where the words of a thread stand
 abbrev pub thread_place : Layout → ℕ → ThreadPlace
 thread_place layout t = slice_index_or layout.threads t no_thread_place
 
+-- where the words of a queue stand
 abbrev pub queue_place : Layout → ℕ → QueuePlace
 queue_place layout t = slice_index_or layout.queues t no_queue_place
 

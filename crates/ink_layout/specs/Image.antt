@@ -36,5 +36,6 @@ pub record Holds (program : Program) (words : List ℕ) (memory : Place → ℕ)
   pub count : length words ≡ words_of (shape_of program)
   pub each : (p : Place) → IsOnBoard program p → memory_of (shape_of program) words p ≡ memory p
 
+-- the words of a board that was never charged
 abbrev pub IsFirstImage : Program → List ℕ → Type 0
 IsFirstImage program words = Holds program words (first_memory program)

@@ -59,16 +59,19 @@ pub record AreQueuePlaces (threads : List ThreadDef) (starts : List ℕ) (from c
         places = queue_words (slice_index_or threads t no_thread_def);
       }
 
--- the numbers of the first regions of the threads, the rings, the queues and the sources
+-- the numbers of the first regions of the threads, the rings, the queues and the sources: those of the threads behind one region of each task
 abbrev pub blocks_from : Program → ℕ
 blocks_from program = length program.tasks
 
+-- behind three regions of each thread
 abbrev pub rings_from : Program → ℕ
 rings_from program = length program.tasks + 3 * length program.threads
 
+-- behind one region of each pipe
 abbrev pub queues_from : Program → ℕ
 queues_from program = length program.tasks + 3 * length program.threads + length program.pipes
 
+-- behind two regions of each queue
 abbrev pub sources_from : Program → ℕ
 sources_from program = length program.tasks + 3 * length program.threads + length program.pipes + 2 * length program.threads
 

@@ -5,6 +5,7 @@ use Rattle.ink_base.specs.declared.entry.Entry.TheVariants as entries
 use Rattle.ink_layout.specs.declared.kernel_point.KernelPoint.{KernelPoint}
 use Rattle.ink_layout.specs.declared.kernel_point.KernelPoint.TheVariants.{Nothing, Scan, Look, Commit, Release}
 
+-- the point's entry in the journal, if it makes one
 abbrev pub entry_of_point : KernelPoint → Option Entry
 entry_of_point Nothing = None
 entry_of_point Scan = Some entries.Scan

@@ -17,15 +17,19 @@ block_words thread = header.words + thread.state
 abbrev pub pages_of : ThreadDef → ℕ
 pages_of thread = header.words / 8 + (thread.state + 7) / 8
 
+-- a thread has its pages, and as many output words as it declares
 abbrev pub thread_shape : ThreadDef → ThreadShape
 thread_shape thread = record { pages = pages_of thread; log = thread.log }
 
+-- an instruction is one word
 abbrev pub task_words : Task → ℕ
 task_words task = length task.code
 
+-- an item of a pipe is one word
 abbrev pub pipe_words : PipeDef → ℕ
 pipe_words pipe = pipe.places
 
+-- a slot of a queue is one word
 abbrev pub queue_words : ThreadDef → ℕ
 queue_words thread = thread.queue
 

@@ -94,14 +94,7 @@ word_in_range program readings words m t time (Timer idle timer) b few known cal
     let low : due_word (timer_of m timer.0).due ≤ 2 ^ 48 = due_in_range (timer_of m timer.0).due sound.due in
     let at : words (place_in t idle.commit_word (header.due timer.0)) ≡ due_word (timer_of m timer.0).due =
     timer_is program words m t time idle timer.0 b.accepted known b.private k in omega arith
-word_in_range program readings words m t time Clock b few known calm h = tt
-word_in_range program readings words m t time Commit b few known calm h = tt
-word_in_range program readings words m t time (Origin chain) b few known calm h = tt
-word_in_range program readings words m t time (First chain e) b few known calm h = tt
-word_in_range program readings words m t time (Slot c p) b few known calm h = tt
-word_in_range program readings words m t time (Writer w) b few known calm h = tt
-word_in_range program readings words m t time (Picked pick) b few known calm h = tt
-word_in_range program readings words m t time Quiet b few known calm h = tt
+word_in_range program readings words m t time _ b few known calm h = tt
 
 -- a pipe that is waited for is of the program
 waiting_in_range : (program : Program) (readings : Readings) (words : Memory) (m : Model) (t time : ℕ) (w : Waiting) → IsSound program readings m → Lasts 0 m →
@@ -119,16 +112,7 @@ row_in_range program readings words m t time (Writer w) sound few h = waiting_in
 row_in_range program readings words m t time (Written w c) sound few h = waiting_in_range program readings words m t time w sound few h.0
 row_in_range program readings words m t time (Item w) sound few h = waiting_in_range program readings words m t time w sound few h.0
 row_in_range program readings words m t time (Timer idle timer) sound few h = h.known
-row_in_range program readings words m t time Clock sound few h = tt
-row_in_range program readings words m t time Commit sound few h = tt
-row_in_range program readings words m t time (Running c) sound few h = tt
-row_in_range program readings words m t time (Finished c running) sound few h = tt
-row_in_range program readings words m t time (Origin chain) sound few h = tt
-row_in_range program readings words m t time (Value chain o) sound few h = tt
-row_in_range program readings words m t time (First chain e) sound few h = tt
-row_in_range program readings words m t time (Slot c p) sound few h = tt
-row_in_range program readings words m t time (Picked pick) sound few h = tt
-row_in_range program readings words m t time Quiet sound few h = tt
+row_in_range program readings words m t time _ sound few h = tt
 
 pub scan_in_range : (program : Program) (readings : Readings) (words : Memory) (m : Model) (scan : ScanMachine) → Background program readings words m →
     Lasts 0 m → ScanHolds program words m scan → IsInRange program words scan

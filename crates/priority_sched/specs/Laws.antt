@@ -52,6 +52,7 @@ abbrev pub IsFound : Program → Memory → Model → Scanned → Type 0
 IsFound program words m (Pick pick) = IsPicked program words m pick
 IsFound program words m Quiet = IsQuiet program m
 
+-- what the registers say at the end of a scan is so of the words and the state
 abbrev pub ScanEnds : Type 0
 ScanEnds =
     (program : Program) (words : Memory) (m : Model) (scan : ScanMachine) (found : Scanned) →

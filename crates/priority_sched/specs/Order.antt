@@ -4,6 +4,7 @@ use Rattle.ink_base.specs.declared.ids.ThreadId.{ThreadId}
 use Rattle.task_isa.specs.declared.program.Program.{Program}
 use Rattle.prog_check.specs.Lookup.{thread_def}
 
+-- the priority that a thread declares
 abbrev pub priority_of : Program → ℕ → ℕ
 priority_of program t = (thread_def program t).priority
 

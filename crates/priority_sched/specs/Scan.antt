@@ -35,6 +35,7 @@ use Rattle.priority_sched.specs.declared.machine.ScanMachine.{ScanMachine}
 use Rattle.priority_sched.specs.Order.{priority_of, next_below}
 use Rattle.priority_sched.specs.Picks.{chain_pick, queue_pick, item_pick, timer_pick}
 
+-- the registers of a scan that visits this thread, with the tick that it read
 abbrev pub scan_at : ThreadId → ℕ → ScanAt → ScanMachine
 scan_at thread time at = record { thread = thread; time = time; at = at }
 

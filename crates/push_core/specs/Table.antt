@@ -45,6 +45,7 @@ access_at port readings a k (HelpTail p) = Exchange port.queue.tail p (p + 1)
 access_at port readings a k StoreSkip = Store port.src (src_word a (k + 1))
 access_at port readings a k StoreAccepted = Store port.src (src_word (a + 1) (k + 1))
 
+-- the access of a source in its row
 abbrev pub access_of : Port → List ℕ → Row → Access
 access_of port readings row = access_at port readings row.accepted row.next row.stage
 
@@ -53,9 +54,11 @@ abbrev pub is_left_at : (number k : ℕ) → Stage → Bool
 is_left_at number k LoadTail = nat_lt k number
 is_left_at number k stage = true
 
+-- a source has an access left in its row
 abbrev pub is_left : (number : ℕ) → Row → Bool
 is_left number row = is_left_at number row.next row.stage
 
+-- that it has one, as a fact
 abbrev pub IsLeft : (number : ℕ) → Row → Type 0
 IsLeft number row = is_left number row ≡ true
 
@@ -106,6 +109,7 @@ take_at port number a k (HelpTail p) word = row_at a k LoadTail
 take_at port number a k StoreSkip word = row_at a (k + 1) LoadTail
 take_at port number a k StoreAccepted word = row_at (a + 1) (k + 1) LoadTail
 
+-- the row of a source after its access found this word
 abbrev pub take_of : Port → (number : ℕ) → Row → (word : ℕ) → Row
 take_of port number row word = take_at port number row.accepted row.next row.stage word
 
@@ -116,6 +120,7 @@ point_of places (Publish p) word = if word == empty_word p then points.Pushed el
 point_of places StoreSkip word = points.Skipped
 point_of places stage word = points.Nothing
 
+-- where a source is between two readings: booting, ready for one, or past the push or the refusal that settles it
 abbrev pub phase_of : Stage → Phase
 phase_of LoadSrc = phases.Boot
 phase_of (LoadSlots n seen) = phases.Boot

@@ -78,9 +78,6 @@ finishing_source program readings words m t i count b known h =
 
 row_in_range : (program : Program) (readings : Readings) (words : Memory) (m : Model) (t stamp : ℕ) (at : BootAt) → Background program readings words m →
     t < length program.threads → BootKnows program words m t stamp at → IsBootRow program at
-row_in_range program readings words m t stamp Commit b known h = tt
-row_in_range program readings words m t stamp (Stamp c) b known h = tt
-row_in_range program readings words m t stamp (Finished c) b known h = tt
 row_in_range program readings words m t stamp (Slot p) b known h =
     let small : finished_events m t < 2 ^ 20 = events_small program readings words m t b known in
     let at : p + 1 ≡ finished_events m t = h.0 in omega arith
@@ -91,12 +88,10 @@ row_in_range program readings words m t stamp (Ack p source count) b known h =
 row_in_range program readings words m t stamp (Empty p) b known h =
     let small : published (queue_of (thread_of m t)) < 2 ^ 20 = b.shared.small t known in
     let at : p ≡ (thread_of m t).released = h.0.event.position in omega arith
-row_in_range program readings words m t stamp Over b known h = tt
+row_in_range program readings words m t stamp _ b known h = tt
 
 word_in_range : (program : Program) (readings : Readings) (words : Memory) (m : Model) (t stamp : ℕ) (at : BootAt) → Background program readings words m →
     t < length program.threads → BootKnows program words m t stamp at → IsBootWord program at (answer words (boot_wants program t at))
-word_in_range program readings words m t stamp Commit b known h = tt
-word_in_range program readings words m t stamp (Stamp c) b known h = tt
 word_in_range program readings words m t stamp (Finished c) b known h =
     let word : words (place_in t c header.finished) ≡ finished_events m t = ap (λ k. words (place_in t k header.finished)) h.0 ∙ finished_word program words m t known b.private in
     rw word (events_small program readings words m t b known)
@@ -104,9 +99,7 @@ word_in_range program readings words m t stamp (Slot p) b known h =
     let few : flag (thread_of m t).finished ≤ 1 = flag_small (thread_of m t).finished in
     let at : p + 1 ≡ finished_events m t = h.0 in
     slot_source_before program t (thread_def program t).queue _ _ p (thread_of m t) (readable program readings words m t b known) (omega arith) (omega arith)
-word_in_range program readings words m t stamp (Ack p source count) b known h = tt
-word_in_range program readings words m t stamp (Empty p) b known h = tt
-word_in_range program readings words m t stamp Over b known h = tt
+word_in_range program readings words m t stamp _ b known h = tt
 
 pub boot_in_range : (program : Program) (readings : Readings) (words : Memory) (m : Model) (boot : BootMachine) → Background program readings words m →
     BootHolds program words m boot → IsInRange program words boot

@@ -18,6 +18,7 @@ use Rattle.reboot.specs.declared.boot_at.BootAt.{BootAt}
 use Rattle.reboot.specs.declared.boot_at.BootAt.TheVariants.{Commit, Stamp, Finished, Slot, Ack, Empty, Over}
 use Rattle.reboot.specs.declared.machine.BootMachine.{BootMachine}
 
+-- the registers of a boot that visits this thread, with the greatest stamp so far
 abbrev pub boot_at : ThreadId → ℕ → BootAt → BootMachine
 boot_at thread stamp at = record { thread = thread; stamp = stamp; at = at }
 
@@ -67,6 +68,7 @@ abbrev pub stamp_at : (stamp : ℕ) → BootAt → Option ℕ
 stamp_at stamp Over = Some stamp
 stamp_at stamp at = None
 
+-- the stamp that a boot has found, once it is over
 abbrev pub boot_stamp : BootMachine → Option ℕ
 boot_stamp boot = stamp_at boot.stamp boot.at
 

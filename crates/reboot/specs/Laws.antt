@@ -45,6 +45,7 @@ pub record FindsOne (program : Program) (readings : Readings) (m : Model) (boot 
   pub own : AtMostOneFinished program (moved program readings m (entry_of_point (boot_point boot.thread boot.at)))
   pub others : (next : Model) → Follows m next → AtMostOneFinished program next
 
+-- at most one thread has a finished event, before each access of a boot and after it
 abbrev pub BootFindsOne : Type 0
 BootFindsOne =
     (program : Program) (readings : Readings) (words : Memory) (m : Model) (boot : BootMachine) →

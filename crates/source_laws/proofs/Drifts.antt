@@ -31,16 +31,13 @@ module _ {i places : ℕ} {n : Near} {tail ack : ℕ} {q : Queue} (d : Drifts i 
   }
 
   pub knows_drift : (readings a k : ℕ) (stage : Stage) → KnowsAt i places readings n a k stage → KnowsAt i places readings (changed n tail ack q) a k stage
-  knows_drift readings a k LoadSrc h = h
   knows_drift readings a k (LoadSlots slot seen) h = (boots_drift a k slot seen h.0, h.1)
   knows_drift readings a k (LoadAck seen) h = boots_drift a k places seen h
-  knows_drift readings a k LoadTail h = h
   knows_drift readings a k (LoadSlot p) h = (h.0, h.1, omega (arith, h.2, d.tail_up))
   knows_drift readings a k (Publish p) h = (h.0, h.1, omega (arith, h.2, d.tail_up), omega (arith, h.3, d.released_up))
   knows_drift readings a k (MoveTail p) h = (h.0, omega (arith, h.1, d.published_up))
   knows_drift readings a k (HelpTail p) h = (h.0, h.1, omega (arith, h.2, d.published_up))
-  knows_drift readings a k StoreSkip h = h
-  knows_drift readings a k StoreAccepted h = h
+  knows_drift readings a k _ h = h
 
 module _ (i places : ℕ) (n : Near) where
   -- the tail moves

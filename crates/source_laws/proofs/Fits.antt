@@ -60,14 +60,7 @@ module _ (board : Board) (x : State) (i : ℕ) (w : IsWithin board) (lt : i < bo
   answer_at : (a k : ℕ) (stage : Stage) → IsAnswer (length (board.readings i)) stage (found board x.word i (row_at a k stage))
   answer_at a k LoadSrc = src_fits (own_of board x i w lt h) bound_of
   answer_at a k LoadTail = tail_fits (own_of board x i w lt h) bound_of
-  answer_at a k (LoadSlots n seen) = tt
-  answer_at a k (LoadAck seen) = tt
-  answer_at a k (LoadSlot p) = tt
-  answer_at a k (Publish p) = tt
-  answer_at a k (MoveTail p) = tt
-  answer_at a k (HelpTail p) = tt
-  answer_at a k StoreSkip = tt
-  answer_at a k StoreAccepted = tt
+  answer_at a k _ = tt
 
   -- the word that its access finds is one that it may find
   pub answer_fits : IsAnswer (length (board.readings i)) (x.row i).stage (found board x.word i (x.row i))

@@ -19,16 +19,10 @@ unfolding address
 slot_at board t n = omega arith
 
 pub access_at-port : (board : Board) (i a k : ℕ) (stage : Stage) → table.access_at (port_of board i) (board.readings i) a k stage ≡ at_address board.shape (access_at board i a k stage)
-access_at-port board i a k LoadSrc = refl
 access_at-port board i a k (LoadSlots n seen) = ap (λ x. fram.Load x) (slot_at board (board.queue_of i) n)
-access_at-port board i a k (LoadAck seen) = refl
-access_at-port board i a k LoadTail = refl
 access_at-port board i a k (LoadSlot p) = ap (λ x. fram.Load x) (slot_at board (board.queue_of i) (p % places_for board i))
 access_at-port board i a k (Publish p) = ap (λ (x : ℕ). fram.Exchange x (empty_word p) (event_word p (event_of board i a k))) (slot_at board (board.queue_of i) (p % places_for board i))
-access_at-port board i a k (MoveTail p) = refl
-access_at-port board i a k (HelpTail p) = refl
-access_at-port board i a k StoreSkip = refl
-access_at-port board i a k StoreAccepted = refl
+access_at-port board i a k _ = refl
 
 -- the access of a row, at its address
 pub access_of-port : (board : Board) (i : ℕ) (row : Row) → access_of (port_of board i) (board.readings i) row ≡ at_address board.shape (access board i row)

@@ -36,6 +36,7 @@ access_at board i a k (HelpTail p) = Exchange (Tail (board.queue_of i)) p (p + 1
 access_at board i a k StoreSkip = Store (Src i) (src_word a (k + 1))
 access_at board i a k StoreAccepted = Store (Src i) (src_word (a + 1) (k + 1))
 
+-- the access of a source in its row
 abbrev pub access : Board → ℕ → Row → Access
 access board i row = access_at board i row.accepted row.next row.stage
 

@@ -1,10 +1,10 @@
 -- A task goes on with a task that its code names.
-use Rattle.std.proofs.Common.{◌≡◌, ℕ, zero, suc, ◌<◌, ◌≤◌, ◌/◌, ◌%◌, Bool, true, false, List, length, inl, inr, subst, sym}
+use Rattle.std.proofs.Common.{ℕ, zero, suc, ◌<◌, ◌/◌, ◌%◌, Bool, true, false, List, length, inl, inr, subst, sym}
 use Rattle.std.specs.Prelude.{◌==◌, if◌then◌else◌, nat_lt}
 use Rattle.std.proofs.lemmas.Bool.{cases_lt}
 use Rattle.std.proofs.lemmas.List.{get_or_past}
 use Rattle.task_isa.specs.declared.act.Act.{Act}
-use Rattle.task_isa.specs.declared.act.Act.TheVariants.{Sets, Loads, Saves, Puts, Sends, Continues, Traps, Ends, Goes, Arms, Stops}
+use Rattle.task_isa.specs.declared.act.Act.TheVariants.{Sets, Loads, Saves, Puts, Sends, Continues, Traps}
 use Rattle.task_isa.specs.declared.instr.Instr.{Instr}
 use Rattle.task_isa.specs.declared.instr.Instr.TheVariants.{Divu, Remu, Next, Done}
 use Rattle.task_isa.specs.declared.outcome.Outcome.{Outcome}
@@ -52,17 +52,12 @@ by_test count true s r below other = below
 by_test count false s r below other = other
 
 step_below : (count : ℕ) (act : Act) (given : Given) (room : Room) (c : Config) → ContinuesBelow count act → StepsBelow count (execute act given room c)
-step_below count (Sets a v) given room c below = tt
-step_below count (Goes offset) given room c below = tt
 step_below count (Loads a n) given room c below = by_test count (nat_lt n (length c.effects.state)) _ (HasTrapped Index) tt tt
 step_below count (Saves n v) given room c below = by_test count (nat_lt n (length c.effects.state)) _ (HasTrapped Index) tt tt
 step_below count (Puts v) given room c below = by_test count (nat_lt (length c.effects.outs) room.log) _ (HasTrapped LogFull) tt tt
 step_below count (Sends q a v) given room c below = by_test count (has_room room q c.effects.sends) _ _ tt tt
-step_below count (Arms j delay period) given room c below = tt
-step_below count (Stops j) given room c below = tt
 step_below count (Continues task) given room c below = below
-step_below count Ends given room c below = tt
-step_below count (Traps trap) given room c below = tt
+step_below count _ given room c below = tt
 
 names_below : (count : ℕ) (code : List Instr) (n : ℕ) → ((k : ℕ) → k < length code → NamesBelow count (instr_at code k)) → NamesBelow count (instr_at code n)
 names_below count code n each =

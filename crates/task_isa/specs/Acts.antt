@@ -19,22 +19,27 @@ pub record Cpu : Type 0 where
   pub at : ℕ
   pub registers : List ℕ
 
+-- what an event comes from, as a task sees it
 abbrev pub kind_of : events.Origin → ℕ
 kind_of (origins.Source source count) = 1
 kind_of (origins.Pipe pipe item) = 2
 kind_of (origins.Timer timer deadline) = 3
 
+-- which source, pipe or timer it is
 abbrev pub number_of : events.Origin → ℕ
 number_of (origins.Source source count) = source.0
 number_of (origins.Pipe pipe item) = pipe.0
 number_of (origins.Timer timer deadline) = timer.0
 
+-- what a register holds
 abbrev pub reg : Cpu → ℕ → ℕ
 reg cpu a = slice_index cpu.registers a
 
+-- a test's answer as a word
 abbrev pub bit_of : Bool → ℕ
 bit_of b = if b then 1 else 0
 
+-- a division by zero traps
 abbrev pub divided : ℕ → Act → Act
 divided divisor act = if divisor == 0 then Traps Divisor else act
 

@@ -14,18 +14,23 @@ use Rattle.task_isa.specs.declared.program.Program.{Program}
 abbrev pub no_thread : ThreadId
 no_thread = record { 0 = 255 }
 
+-- what stands for a thread that isn't declared
 abbrev pub no_thread_def : ThreadDef
 no_thread_def = record { name = []; priority = 0; queue = 0; state = 0; log = 0; expires = None }
 
+-- for a pipe that isn't
 abbrev pub no_pipe_def : PipeDef
 no_pipe_def = record { name = []; places = 0; writer = no_thread; reader = no_thread }
 
+-- for a timer that isn't
 abbrev pub no_timer_def : TimerDef
 no_timer_def = record { name = []; thread = no_thread; due = None; period = 0 }
 
+-- and for a task that isn't
 abbrev pub no_task_def : Task
 no_task_def = record { name = []; thread = no_thread; limit = 0; code = [] }
 
+-- the thread of a number
 abbrev pub thread_def : Program → ℕ → ThreadDef
 thread_def program t = slice_index_or program.threads t no_thread_def
 
@@ -33,15 +38,19 @@ thread_def program t = slice_index_or program.threads t no_thread_def
 abbrev pub source_thread : Program → ℕ → ℕ
 source_thread program i = (slice_index_or program.sources i no_thread).0
 
+-- the pipe of a number
 abbrev pub pipe_def : Program → ℕ → PipeDef
 pipe_def program q = slice_index_or program.pipes q no_pipe_def
 
+-- the timer of a number
 abbrev pub timer_def : Program → ℕ → TimerDef
 timer_def program j = slice_index_or program.timers j no_timer_def
 
+-- the task of a number
 abbrev pub task_def : Program → ℕ → Task
 task_def program x = slice_index_or program.tasks x no_task_def
 
+-- the instruction at an offset of a task; past its code, the end of the task
 abbrev pub instr_at : Task → ℕ → Instr
 instr_at task n = slice_index_or task.code n Done
 

@@ -21,6 +21,7 @@ pub record Effects : Type 0 where
   pub outs : List ℕ
   pub timers : List TimerSet
 
+-- a task between two instructions
 pub record Config : Type 0 where
   pub cpu : Cpu
   pub effects : Effects
@@ -45,12 +46,15 @@ pub data Stepped : Type 0 where
 abbrev pub advance : Cpu → Cpu
 advance cpu = record { at = cpu.at + 1; registers = cpu.registers }
 
+-- and with this register set
 abbrev pub advance_with : Cpu → ℕ → ℕ → Cpu
 advance_with cpu a value = record { at = cpu.at + 1; registers = slice_set cpu.registers a value }
 
+-- the task goes on with these registers
 abbrev pub go : Config → Cpu → Stepped
 go c cpu = GoesOn (record { cpu = cpu; effects = c.effects })
 
+-- and with these effects
 abbrev pub go_with : Config → Cpu → Effects → Stepped
 go_with c cpu effects = GoesOn (record { cpu = cpu; effects = effects })
 
@@ -58,6 +62,7 @@ go_with c cpu effects = GoesOn (record { cpu = cpu; effects = effects })
 abbrev pub sent_to : ℕ → List Sent → ℕ
 sent_to pipe sends = count_by (λ (s : Sent). s.pipe.0 == pipe) sends
 
+-- a pipe takes one more item of the task
 abbrev pub has_room : Room → ℕ → List Sent → Rattle.std.specs.Prelude.Bool
 has_room room pipe sends = nat_lt (sent_to pipe sends) (slice_index room.pipes pipe)
 
@@ -83,6 +88,7 @@ execute (Continues x) given room c = IsOver (outcomes.Next (record { 0 = x }))
 execute Ends given room c = IsOver outcomes.Done
 execute (Traps code) given room c = HasTrapped code
 
+-- the instruction at an offset; past the code, the end of the task
 abbrev pub instr_at : List Instr → ℕ → Instr
 instr_at code n = slice_index_or code n Done
 
@@ -100,9 +106,11 @@ run code given room (suc left) c =
 abbrev pub first_cpu : Cpu
 first_cpu = record { at = 0; registers = replicate 16 0 }
 
+-- a task that has done nothing yet, over the state that it was given
 abbrev pub no_effects : List ℕ → Effects
 no_effects state = record { state = state; sends = []; outs = []; timers = [] }
 
+-- a task before its first instruction
 abbrev pub first_config : List ℕ → Config
 first_config state = record { cpu = first_cpu; effects = no_effects state }
 
@@ -117,9 +125,11 @@ task_end limit state (Ended outcome e left) =
 task_end limit state (Trapped code left) =
     record { outcome = outcomes.Trap code; state = state; sends = []; outs = []; timers = []; executed = limit - left }
 
+-- what the instructions of a task can ask of its start: the event, and the tick
 abbrev pub given_of : TaskStart → Given
 given_of start = record { event = start.event; time = start.time }
 
+-- how much the pipes and the outputs take of it
 abbrev pub room_of : TaskStart → Room
 room_of start = record { pipes = start.room; log = start.log_room }
 

@@ -22,6 +22,7 @@ NamesFittingId (Stops timer) = timer < 256
 NamesFittingId (Continues task) = task < 2 ^ 16
 NamesFittingId _ = Unit {0}
 
+-- the offset of each instruction fits its register, and so does each id that one names
 pub record IsRunnable (code : List Instr) : Type 0 where
   pub counted : length code < 2 ^ 32
   pub fitting : (n : ℕ) → n < length code → HasFittingId (instr_at code n)

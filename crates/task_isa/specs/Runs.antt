@@ -7,6 +7,7 @@ use Rattle.task_isa.specs.declared.run.Run.{Run}
 use Rattle.task_isa.specs.Acts.{Given}
 use Rattle.task_isa.specs.Meaning.{Config, Room, Stepped, GoesOn, IsOver, HasTrapped, execute, sent_to}
 
+-- the registers, the position and the effects of a run
 abbrev pub config_of : Run → Config
 config_of r =
     record {
@@ -14,6 +15,7 @@ config_of r =
       effects = record { state = r.state; sends = r.sends; outs = r.outs; timers = r.timers };
     }
 
+-- a flow, with the configuration that the run has after it
 abbrev pub stepped_of : Flow → Config → Stepped
 stepped_of flows.GoesOn c = GoesOn c
 stepped_of (flows.IsOver outcome) c = IsOver outcome

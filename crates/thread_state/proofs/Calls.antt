@@ -101,13 +101,11 @@ call_goes : (t : ℕ) (start m : Memory) (block : Block) (b : Buffer) (under : O
     CanCall w call → IsGoing t start m b under contents →
     Goes t start (memory_after t m w call) (registers_after t m w call) (contents_after (committed start t) contents call)
 call_goes t start m block b None contents (Prepare word) can g = prepare_goes t start m block b (word / 8) contents g
-call_goes t start m block b (Some page) contents (Prepare word) can g = cc
 call_goes t start m block b None contents Copy can g = cc
 call_goes t start m block b (Some page) contents Copy can g = copy_goes t start m block b page contents g
 call_goes t start m block b None contents (Write word value) can g = write_goes t start m block b word value contents (eqb-true _ 1 can.1) g
-call_goes t start m block b (Some page) contents (Write word value) can g = cc
 call_goes t start m block b None contents Discard can g = discard_goes t start m b contents g
-call_goes t start m block b (Some page) contents Discard can g = cc
+call_goes t start m block b (Some page) contents _ can g = cc
 
 -- any calls keep it
 pub calls_go : (t : ℕ) (start m : Memory) (w : Writes) (contents : ℕ → ℕ) (calls : List Call) → CanCallAll t m w calls → Goes t start m w contents →

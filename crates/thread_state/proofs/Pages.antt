@@ -89,15 +89,7 @@ is_dirty-false b p h = ne_eqb _ _ λ e. omega arith
 pub copy_only : (m : Memory) (t c p : ℕ) (x : Copying) (q : Place) → IsOutside t q → perform m (copy_access t c p x) q ≡ m q
 copy_only m t c p (Loading k) q out = refl
 copy_only m t c p (Storing k v) (Page u a b w) out = store-other m (Page t p (1 - bit_at c p) k) (Page u a b w) v λ e. out (cc)
-copy_only m t c p (Storing k v) (Code x n) out = refl
-copy_only m t c p (Storing k v) (Commit u) out = refl
-copy_only m t c p (Storing k v) (Log u n) out = refl
-copy_only m t c p (Storing k v) (Ring x n) out = refl
-copy_only m t c p (Storing k v) (Tail u) out = refl
-copy_only m t c p (Storing k v) (Slot u n) out = refl
-copy_only m t c p (Storing k v) (Ack i) out = refl
-copy_only m t c p (Storing k v) Clock out = refl
-copy_only m t c p (Storing k v) (Src i) out = refl
+copy_only m t c p (Storing k v) _ out = refl
 
 -- a step of the copying of a clean page: the committed and the working copy stay
 pub copy_committed : (m : Memory) (t p : ℕ) (x : Copying) (w : ℕ) → committed (perform m (copy_access t (m (Commit t)) p x)) t w ≡ committed m t w
@@ -149,15 +141,7 @@ put_working m t b u v w contents known =
 
 pub dirty_put_only : (m : Memory) (t mask u v : ℕ) (q : Place) → IsOutside t q → store m (place_in t mask u) v q ≡ m q
 dirty_put_only m t mask u v (Page x a b w) out = store-other m (place_in t mask u) (Page x a b w) v λ e. out (cc)
-dirty_put_only m t mask u v (Code x n) out = refl
-dirty_put_only m t mask u v (Commit x) out = refl
-dirty_put_only m t mask u v (Log x n) out = refl
-dirty_put_only m t mask u v (Ring x n) out = refl
-dirty_put_only m t mask u v (Tail x) out = refl
-dirty_put_only m t mask u v (Slot x n) out = refl
-dirty_put_only m t mask u v (Ack i) out = refl
-dirty_put_only m t mask u v Clock out = refl
-dirty_put_only m t mask u v (Src i) out = refl
+dirty_put_only m t mask u v _ out = refl
 
 -- without writes the working copy is the committed one
 pub no_writes_words : (m : Memory) (t w : ℕ) → working m t (no_writes (m (Commit t))) w ≡ committed m t w

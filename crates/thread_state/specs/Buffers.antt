@@ -14,6 +14,7 @@ abbrev pub copying_out : Copying → declared.Copying
 copying_out (Loading k) = copies.Loading k
 copying_out (Storing k v) = copies.Storing k v
 
+-- the code has no state of a copy but these
 pub copying_out-copying_in : (c : declared.Copying) → copying_out (copying_in c) ≡ c
 copying_out-copying_in (copies.Loading k) = refl
 copying_out-copying_in (copies.Storing k v) = refl

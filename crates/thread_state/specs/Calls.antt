@@ -25,6 +25,7 @@ abbrev pub found : ℕ → Memory → Writes → Option ℕ → ℕ
 found thread m w None = 0
 found thread m w (Some page) = answer m (copy_access thread w.buffer.commit page w.buffer.copying)
 
+-- the memory after that access
 abbrev pub copied : ℕ → Memory → Writes → Option ℕ → Memory
 copied thread m w None = m
 copied thread m w (Some page) = perform m (copy_access thread w.buffer.commit page w.buffer.copying)
@@ -48,11 +49,13 @@ CanCallAll thread m w [] = Unit {0}
 CanCallAll thread m w (call ∷ calls) =
     CanCall w call × CanCallAll thread (memory_after thread m w call) (registers_after thread m w call) calls
 
+-- the registers after calls one after another
 abbrev pub registers_after_all : ℕ → Memory → Writes → List Call → Writes
 registers_after_all thread m w [] = w
 registers_after_all thread m w (call ∷ calls) =
     registers_after_all thread (memory_after thread m w call) (registers_after thread m w call) calls
 
+-- the memory after them
 abbrev pub memory_after_all : ℕ → Memory → Writes → List Call → Memory
 memory_after_all thread m w [] = m
 memory_after_all thread m w (call ∷ calls) =
@@ -100,5 +103,6 @@ pub record CopiesBySixteen (block : Block) (commit dirty page : ℕ) : Type 0 wh
   pub over : (words : List ℕ) → length words ≡ 16 →
       taken_all (prepared (resting block commit dirty) page) words ≡ resting block commit (bit_or dirty (2 ^ page))
 
+-- of every page that is not dirty
 abbrev pub SixteenCopy : Type 0
 SixteenCopy = (block : Block) (commit dirty page : ℕ) → bit_at dirty page ≡ 0 → CopiesBySixteen block commit dirty page

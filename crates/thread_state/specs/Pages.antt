@@ -15,9 +15,11 @@ pub record Buffer : Type 0 where
   pub dirty : ℕ
   pub copying : Copying
 
+-- the registers of a thread that has written nothing since its commit
 abbrev pub no_writes : ℕ → Buffer
 no_writes commit = record { commit = commit; dirty = 0; copying = Loading 0 }
 
+-- a page is dirty once its other copy holds what was written since the commit
 abbrev pub is_dirty : Buffer → ℕ → Bool
 is_dirty b page = bit_at b.dirty page == 1
 
@@ -25,6 +27,7 @@ is_dirty b page = bit_at b.dirty page == 1
 abbrev pub working_mask : Buffer → ℕ
 working_mask b = bit_xor b.commit b.dirty
 
+-- a word as the thread reads it, with its own writes
 abbrev pub working : Memory → ℕ → Buffer → ℕ → ℕ
 working m thread b word = word_in m thread (working_mask b) word
 

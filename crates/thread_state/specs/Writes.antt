@@ -41,12 +41,15 @@ CanWrite w word = IsTrue (is_dirty w.buffer (word / 8))
 abbrev pub wanted : Writes → Option declared.Access
 wanted w = option_map (λ page. at_block w.block (copy_access 0 w.buffer.commit page w.buffer.copying)) w.under_way
 
+-- the access that reads a word of the block
 abbrev pub read_of : Writes → ℕ → declared.Access
 read_of w word = at_block w.block (get_access 0 w.buffer word)
 
+-- the access that writes one
 abbrev pub write_of : Writes → ℕ → ℕ → declared.Access
 write_of w word value = at_block w.block (write_access 0 w.buffer word value)
 
+-- the store that makes all writes committed at once
 abbrev pub commit_of : Writes → declared.Access
 commit_of w = at_block w.block (commit_access 0 w.buffer)
 
@@ -60,6 +63,7 @@ taken_at w word (Some page) =
       under_way = cond (goes_on w.buffer.copying) (Some page) None;
     }
 
+-- the registers after an access found this word
 abbrev pub taken : Writes → ℕ → Writes
 taken w word = taken_at w word w.under_way
 

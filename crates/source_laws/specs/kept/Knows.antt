@@ -47,5 +47,6 @@ KnowsAt i places readings n a k (HelpTail p) = IsReady n.src n.source a k × (k 
 KnowsAt i places readings n a k StoreSkip = IsReady n.src n.source a k × (n.source.refused ≡ true) × (k < readings)
 KnowsAt i places readings n a k StoreAccepted = IsLate n.src n.source a k
 
+-- what source i knows in the row that it is in
 abbrev pub Knows : (i places readings : ℕ) → Near → Row → Type 0
 Knows i places readings n row = KnowsAt i places readings n row.accepted row.next row.stage
