@@ -11,6 +11,7 @@ use crate::demand::demand;
 use crate::operands::read_back;
 use crate::parts::{instr, instr_line, pipe, task, task_line, timer};
 use crate::threads::has_thread;
+use ink_base::limits::{INSTRUCTIONS, TASK_LIMIT, TASKS};
 use ink_base::{Cause, JobFault};
 use task_isa::{Instr, Lines, Program, Task};
 
@@ -83,7 +84,7 @@ fn judge_task(program: &Program, lines: &Lines, x: usize) -> Result<(), JobFault
     let line = task_line(lines, x);
     let before = &program.tasks.as_slice()[..x];
     demand(
-        1 <= task.limit && task.limit <= 4096,
+        1 <= task.limit && task.limit <= TASK_LIMIT,
         line,
         Cause::OverLimit,
     )?;
@@ -94,9 +95,9 @@ fn judge_task(program: &Program, lines: &Lines, x: usize) -> Result<(), JobFault
 
 /// Whether all tasks together have no more instructions than a program may have.
 fn is_code_within(tasks: &[Task]) -> bool
-    ensures { result ≡ nat_le (sum_by (λ (task : ATask). length task.code) tasks.now) 4096 }
+    ensures { result ≡ nat_le (sum_by (λ (task : ATask). length task.code) tasks.now) INSTRUCTIONS }
 {
-    let mut left = 4096;
+    let mut left = INSTRUCTIONS;
     for task in tasks {
         if left < task.code.len() {
             return false;
@@ -112,7 +113,7 @@ pub fn judge_tasks(program: &Program, lines: &Lines) -> Result<(), JobFault>
     ensures read_back { IfOk result (λ _. (x : ℕ) → x < length program.now.tasks → AreReadBack (task_def program.now x)) }
 {
     let count = program.tasks.len();
-    demand(count <= 256, lines.program, Cause::OverLimit)?;
+    demand(count <= TASKS, lines.program, Cause::OverLimit)?;
     demand(
         is_code_within(program.tasks.as_slice()),
         lines.program,
