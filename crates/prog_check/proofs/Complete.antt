@@ -6,6 +6,7 @@ use Rattle.std.specs.Str.{bytes_eq}
 use Rattle.std.proofs.lemmas.Bool.{cases_Bool, and_from, le-leb, lt-ltb, eq-eqb, ne_eqb}
 use Rattle.ink_base.specs.declared.fault.Cause.{Cause}
 use Rattle.ink_base.specs.declared.fault.JobFault.{JobFault}
+use Rattle.ink_base.specs.declared.limits.TheConstants as limits
 use Rattle.task_isa.specs.declared.instr.Instr.{Instr}
 use Rattle.task_isa.specs.declared.instr.Instr.TheVariants.{Jmp, Jz, Jnz, Send, Arm, Stop, Next}
 use Rattle.task_isa.specs.declared.lines.Lines.{Lines}
@@ -35,14 +36,14 @@ none_below fault (suc n) h = neither (first_below fault n) (fault n) (none_below
 between : (least greatest n : ℕ) → least ≤ n → n ≤ greatest → is_between least greatest n ≡ true
 between least greatest n above below = and_from _ _ (le-leb least n above) (le-leb n greatest below)
 
-is_early : (o : Option ℕ) → ((ticks : ℕ) → o ≡ Some ticks → ticks < 2 ^ 31) → is_time o ≡ true
+is_early : (o : Option ℕ) → ((ticks : ℕ) → o ≡ Some ticks → ticks ≤ limits.TICKS) → is_time o ≡ true
 is_early None h = refl
-is_early (Some ticks) h = lt-ltb ticks (2 ^ 31) (h ticks refl)
+is_early (Some ticks) h = le-leb ticks limits.TICKS (h ticks refl)
 
 thread_within : (thread : ThreadDef) → IsRightThread thread → is_thread_within thread ≡ true
 thread_within thread right =
-    and_from _ _ (between 2 32 thread.queue right.queue_least right.queue)
-    (and_from _ _ (le-leb thread.state 256 right.state) (and_from _ _ (between 1 4096 thread.log right.log_least right.log) (is_early thread.expires right.expires)))
+    and_from _ _ (between limits.FEWEST_QUEUE_PLACES limits.QUEUE_PLACES thread.queue right.queue_least right.queue)
+    (and_from _ _ (le-leb thread.state limits.STATE_NUMBERS right.state) (and_from _ _ (between 1 limits.LOG_PLACES thread.log right.log_least right.log) (is_early thread.expires right.expires)))
 
 unequal : (a b : ℕ) → a ≢ b → not (eqb a b) ≡ true
 unequal a b h = rw (ne_eqb a b h) refl
@@ -55,7 +56,7 @@ is_off None period h = eq-eqb period 0 (h refl)
 is_off (Some due) period h = refl
 
 timer_within : (program : Program) (timer : TimerDef) → IsRightTimer program timer → is_timer_within timer ≡ true
-timer_within program timer right = and_from _ _ (is_early timer.due right.due) (and_from _ _ (lt-ltb _ _ right.period) (is_off timer.due timer.period right.off))
+timer_within program timer right = and_from _ _ (is_early timer.due right.due) (and_from _ _ (le-leb _ _ right.period) (is_off timer.due timer.period right.off))
 
 both : (i count a b : ℕ) → (i < count) × (a ≡ b) → (ltb i count && eqb a b) ≡ true
 both i count a b h = and_from _ _ (lt-ltb i count h.0) (eq-eqb a b h.1)
@@ -97,7 +98,7 @@ module _ (program : Program) (lines : Lines) (is : IsAccepted program) where
   unfolding pipe_fault
   pipe_passes q lt =
       let right = is.pipes q lt in
-      neither _ _ (holding _ _ _ (between 1 64 (pipe_def program q).places right.places_least right.places))
+      neither _ _ (holding _ _ _ (between 1 limits.PIPE_PLACES (pipe_def program q).places right.places_least right.places))
       (neither _ _ (holding _ _ _ (rw (fresh_before (λ (other : PipeDef). other.name) program.pipes no_pipe_def q lt is.distinct.pipes) refl))
       (holding _ _ _ (pipe_owned program (pipe_def program q) right)))
 
@@ -117,7 +118,7 @@ module _ (program : Program) (lines : Lines) (is : IsAccepted program) where
   unfolding task_fault
   task_passes x lt =
       let right = is.tasks x lt in
-      neither _ _ (holding _ _ _ (between 1 4096 (task_def program x).limit right.limit_least right.limit))
+      neither _ _ (holding _ _ _ (between 1 limits.TASK_LIMIT (task_def program x).limit right.limit_least right.limit))
       (neither _ _ (holding _ _ _ (rw (fresh_before (λ (other : Task). other.name) program.tasks no_task_def x lt is.distinct.tasks) refl))
       (neither _ _ (holding _ _ _ (lt-ltb _ _ right.thread))
       (none_below (instr_fault program lines x) (length (task_def program x).code) (λ n less. instr_passes x n lt less))))

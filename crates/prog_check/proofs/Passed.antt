@@ -7,6 +7,7 @@ use Rattle.std.specs.Option.{is_some}
 use Rattle.std.proofs.lemmas.List.{get_or-take, length-take}
 use Rattle.std.proofs.lemmas.List.Folds.{list_any_at}
 use Rattle.std.proofs.lemmas.Slice.Eq.{bytes_eq-Decides}
+use Rattle.ink_base.specs.declared.limits.TheConstants as limits
 use Rattle.task_isa.specs.declared.instr.Instr.{Instr}
 use Rattle.task_isa.specs.declared.instr.Instr.TheVariants.{Jmp, Jz, Jnz, Send, Arm, Stop, Next}
 use Rattle.task_isa.specs.declared.program.ThreadDef.{ThreadDef}
@@ -21,11 +22,11 @@ use Rattle.prog_check.specs.Faults.{is_between, is_time, is_thread_within, has_t
 pub between : (least greatest n : ℕ) → is_between least greatest n ≡ true → (least ≤ n) × (n ≤ greatest)
 between least greatest n h = let p = and_parts _ _ h in (leb-true _ _ p.0, leb-true _ _ p.1)
 
-time_below : (o : Option ℕ) → is_time o ≡ true → (ticks : ℕ) → o ≡ Some ticks → ticks < 2 ^ 31
+time_below : (o : Option ℕ) → is_time o ≡ true → (ticks : ℕ) → o ≡ Some ticks → ticks ≤ limits.TICKS
 time_below None h ticks e = absurd (cc)
-time_below (Some t) h ticks e = let same : t ≡ ticks = cc in let lt = ltb-true t (2 ^ 31) h in omega arith
+time_below (Some t) h ticks e = let same : t ≡ ticks = cc in let le = leb-true t limits.TICKS h in omega (arith, le, same)
 
-pub thread_within : (thread : ThreadDef) → is_thread_within thread ≡ true → thread.priority < 256 → IsRightThread thread
+pub thread_within : (thread : ThreadDef) → is_thread_within thread ≡ true → thread.priority ≤ limits.PRIORITY → IsRightThread thread
 thread_within thread h priority =
     let p = and_parts _ _ h in
     let queue = between _ _ _ p.0 in
@@ -45,7 +46,7 @@ thread_within thread h priority =
 unequal : (a b : ℕ) → not (eqb a b) ≡ true → a ≢ b
 unequal a b h e = absurd (false≢true (sym (not-true _ h) ∙ eq-eqb a b e))
 
-pub pipe_right : (program : Program) (pipe : PipeDef) → is_between 1 64 pipe.places ≡ true → is_pipe_owned program pipe ≡ true → IsRightPipe program pipe
+pub pipe_right : (program : Program) (pipe : PipeDef) → is_between 1 limits.PIPE_PLACES pipe.places ≡ true → is_pipe_owned program pipe ≡ true → IsRightPipe program pipe
 pipe_right program pipe places owned =
     let p = between _ _ _ places in
     let q = and_parts _ _ owned in
@@ -69,7 +70,7 @@ timer_right program timer h owned =
     record {
       thread = ltb-true _ _ owned;
       due = time_below timer.due p.0;
-      period = ltb-true _ _ q.0;
+      period = leb-true _ _ q.0;
       off = off timer.due timer.period q.1;
     }
 

@@ -2,6 +2,7 @@
 use Rattle.std.proofs.Common.{◌≡◌, ◌≢◌, ℕ, ◌<◌, true, false, ◌||◌, eqb, length, take, None, sym, ◌∙◌}
 use Rattle.std.specs.Str.{bytes_eq}
 use Rattle.std.proofs.lemmas.Bool.{or_parts, not-true, leb-true, ltb-true, eq-eqb, false≢true}
+use Rattle.ink_base.specs.declared.limits.TheConstants as limits
 use Rattle.task_isa.specs.declared.lines.Lines.{Lines}
 use Rattle.task_isa.specs.declared.program.ThreadDef.{ThreadDef}
 use Rattle.task_isa.specs.declared.program.PipeDef.{PipeDef}
@@ -21,7 +22,7 @@ pub record ThreadMeets (program : Program) (t : ℕ) : Type 0 where
   pub taken : is_thread_taken (take t program.threads) (thread_def program t) ≡ false
 
 pub record PipeMeets (program : Program) (q : ℕ) : Type 0 where
-  pub within : is_between 1 64 (pipe_def program q).places ≡ true
+  pub within : is_between 1 limits.PIPE_PLACES (pipe_def program q).places ≡ true
   pub taken : is_pipe_taken (take q program.pipes) (pipe_def program q) ≡ false
   pub owned : is_pipe_owned program (pipe_def program q) ≡ true
 
@@ -31,7 +32,7 @@ pub record TimerMeets (program : Program) (j : ℕ) : Type 0 where
   pub owned : has_thread program (timer_def program j).thread.0 ≡ true
 
 pub record TaskMeets (program : Program) (x : ℕ) : Type 0 where
-  pub within : is_between 1 4096 (task_def program x).limit ≡ true
+  pub within : is_between 1 limits.TASK_LIMIT (task_def program x).limit ≡ true
   pub taken : is_task_taken (take x program.tasks) (task_def program x) ≡ false
   pub thread : has_thread program (task_def program x).thread.0 ≡ true
   pub owned : (n : ℕ) → n < length (task_def program x).code → is_owned program (task_def program x) (instr_at (task_def program x) n) ≡ true
@@ -177,7 +178,7 @@ distinct_of program m = record {
 
 -- a program without a fault, whose priorities are bytes and whose operands fit their bits, is accepted
 pub accepted_of : (program : Program) (lines : Lines) → first_fault program lines ≡ None
-    → ((t : ℕ) → t < length program.threads → (thread_def program t).priority < 256)
+    → ((t : ℕ) → t < length program.threads → (thread_def program t).priority ≤ limits.PRIORITY)
     → ((x : ℕ) → x < length program.tasks → HasFittingCode (task_def program x)) → IsAccepted program
 accepted_of program lines h priorities fits =
     let m = meets_of program lines h in

@@ -1,6 +1,7 @@
 -- What an accepted program keeps: its counts and numbers are within the limits, its ids and targets are right, and its operands fit their bits.
 use Rattle.std.specs.Prelude.{◌≡◌, ◌≢◌, ℕ, ◌-◌, ◌<◌, ◌≤◌, ◌^◌, Bool, true, false, IsTrue, length}
 use Rattle.std.specs.Option.{ForSome, ForNone}
+use Rattle.ink_base.specs.declared.limits.TheConstants as limits
 use Rattle.task_isa.specs.declared.instr.Instr.{Instr}
 use Rattle.task_isa.specs.declared.instr.Instr.TheVariants.{Jmp, Jz, Jnz, Send, Arm, Stop, Next, Done}
 use Rattle.task_isa.specs.declared.program.ThreadDef.{ThreadDef}
@@ -14,27 +15,27 @@ use Rattle.prog_check.specs.Lookup.{thread_def, source_thread, pipe_def, timer_d
 -- how many declarations of each kind there are, and how many instructions
 pub record HasCounts (program : Program) : Type 0 where
   pub threads_least : 1 ≤ length program.threads
-  pub threads : length program.threads ≤ 16
-  pub sources : length program.sources ≤ 16
-  pub pipes : length program.pipes ≤ 8
-  pub timers : length program.timers ≤ 8
-  pub tasks : length program.tasks ≤ 256
-  pub code : code_len program ≤ 4096
+  pub threads : length program.threads ≤ limits.THREADS
+  pub sources : length program.sources ≤ limits.SOURCES
+  pub pipes : length program.pipes ≤ limits.PIPES
+  pub timers : length program.timers ≤ limits.TIMERS
+  pub tasks : length program.tasks ≤ limits.TASKS
+  pub code : code_len program ≤ limits.INSTRUCTIONS
 
 -- the numbers of a thread are within their limits
 pub record IsRightThread (thread : ThreadDef) : Type 0 where
-  pub priority : thread.priority < 256
-  pub queue_least : 2 ≤ thread.queue
-  pub queue : thread.queue ≤ 32
-  pub state : thread.state ≤ 256
+  pub priority : thread.priority ≤ limits.PRIORITY
+  pub queue_least : limits.FEWEST_QUEUE_PLACES ≤ thread.queue
+  pub queue : thread.queue ≤ limits.QUEUE_PLACES
+  pub state : thread.state ≤ limits.STATE_NUMBERS
   pub log_least : 1 ≤ thread.log
-  pub log : thread.log ≤ 4096
-  pub expires : ForSome thread.expires (λ ticks. ticks < 2 ^ 31)
+  pub log : thread.log ≤ limits.LOG_PLACES
+  pub expires : ForSome thread.expires (λ ticks. ticks ≤ limits.TICKS)
 
 -- a pipe has places, and goes from one thread to another
 pub record IsRightPipe (program : Program) (pipe : PipeDef) : Type 0 where
   pub places_least : 1 ≤ pipe.places
-  pub places : pipe.places ≤ 64
+  pub places : pipe.places ≤ limits.PIPE_PLACES
   pub writer : pipe.writer.0 < length program.threads
   pub reader : pipe.reader.0 < length program.threads
   pub other : pipe.writer.0 ≢ pipe.reader.0
@@ -42,8 +43,8 @@ pub record IsRightPipe (program : Program) (pipe : PipeDef) : Type 0 where
 -- a timer is of a thread, and has no period where it is off
 pub record IsRightTimer (program : Program) (timer : TimerDef) : Type 0 where
   pub thread : timer.thread.0 < length program.threads
-  pub due : ForSome timer.due (λ tick. tick < 2 ^ 31)
-  pub period : timer.period < 2 ^ 31
+  pub due : ForSome timer.due (λ tick. tick ≤ limits.TICKS)
+  pub period : timer.period ≤ limits.TICKS
   pub off : ForNone timer.due (timer.period ≡ 0)
 
 -- a jump stays in the task; a pipe is written, a timer set and a task named by the thread that it belongs to
@@ -72,7 +73,7 @@ HasFittingCode task = (n : ℕ) → n < length task.code → IsInstr (instr_at t
 pub record IsRightTask (program : Program) (task : Task) : Type 0 where
   pub thread : task.thread.0 < length program.threads
   pub limit_least : 1 ≤ task.limit
-  pub limit : task.limit ≤ 4096
+  pub limit : task.limit ≤ limits.TASK_LIMIT
   pub code : 0 < length task.code
   pub ends : IsTrue (ends_code (instr_at task (length task.code - 1)))
   pub instrs : (n : ℕ) → n < length task.code → IsRightInstr program task (instr_at task n)

@@ -1,5 +1,5 @@
 -- The first fault of a program, judged in two steps.
-use Rattle.std.specs.Prelude.{ℕ, zero, suc, ◌-◌, ◌^◌, Bool, true, not, ◌&&◌, ◌||◌, List, [], length, take, Option, Some, None, is_some, Result, Ok, Err, nat_le, nat_lt, ◌==◌, if◌then◌else◌, slice_index, slice_index_or}
+use Rattle.std.specs.Prelude.{ℕ, zero, suc, ◌-◌, Bool, true, not, ◌&&◌, ◌||◌, List, [], length, take, Option, Some, None, is_some, Result, Ok, Err, nat_le, nat_lt, ◌==◌, if◌then◌else◌, slice_index, slice_index_or}
 use Rattle.std.specs.List.{list_any}
 use Rattle.std.specs.Option.{option_or}
 use Rattle.std.specs.Str.{bytes_eq}
@@ -8,6 +8,7 @@ use Rattle.ink_base.specs.declared.fault.Cause.TheVariants.{OverLimit, Duplicate
 use Rattle.ink_base.specs.declared.fault.JobFault.{JobFault}
 use Rattle.ink_base.specs.declared.fault.JobAnswer.{JobAnswer}
 use Rattle.ink_base.specs.declared.fault.JobAnswer.TheVariants.{Fault}
+use Rattle.ink_base.specs.declared.limits.TheConstants as limits
 use Rattle.task_isa.specs.declared.instr.Instr.{Instr}
 use Rattle.task_isa.specs.declared.instr.Instr.TheVariants.{Jmp, Jz, Jnz, Send, Arm, Stop, Next}
 use Rattle.task_isa.specs.declared.lines.Lines.{Lines}
@@ -45,10 +46,10 @@ instr_line lines x n = slice_index (slice_index_or lines.code x []) n
 abbrev pub is_between : ℕ → ℕ → ℕ → Bool
 is_between least greatest n = nat_le least n && nat_le n greatest
 
--- no time, or one below 2^31
+-- no time, or one of so many ticks as a job may name
 abbrev pub is_time : Option ℕ → Bool
 is_time None = true
-is_time (Some ticks) = nat_lt ticks (2 ^ 31)
+is_time (Some ticks) = nat_le ticks limits.TICKS
 
 -- First step: numbers out of their range, then names and priorities that are taken, then ids of nothing or of another thread.
 
@@ -57,7 +58,8 @@ has_thread program t = nat_lt t (length program.threads)
 
 abbrev pub is_thread_within : ThreadDef → Bool
 is_thread_within thread =
-    is_between 2 32 thread.queue && (nat_le thread.state 256 && (is_between 1 4096 thread.log && is_time thread.expires))
+    is_between limits.FEWEST_QUEUE_PLACES limits.QUEUE_PLACES thread.queue
+    && (nat_le thread.state limits.STATE_NUMBERS && (is_between 1 limits.LOG_PLACES thread.log && is_time thread.expires))
 
 -- a thread before this one has its name or its priority
 abbrev pub is_thread_taken : List ThreadDef → ThreadDef → Bool
@@ -81,13 +83,13 @@ is_pipe_taken before pipe = list_any (λ (other : PipeDef). bytes_eq other.name 
 
 unfoldable pub pipe_fault : Program → Lines → ℕ → Option JobFault
 pipe_fault program lines q =
-    unless (is_between 1 64 (pipe_def program q).places) lines.program OverLimit
+    unless (is_between 1 limits.PIPE_PLACES (pipe_def program q).places) lines.program OverLimit
     or_else unless (not (is_pipe_taken (take q program.pipes) (pipe_def program q))) lines.program Duplicate
     or_else unless (is_pipe_owned program (pipe_def program q)) lines.program BadOwner
 
 -- a timer that is off has no period
 abbrev pub is_timer_within : TimerDef → Bool
-is_timer_within timer = is_time timer.due && (nat_lt timer.period (2 ^ 31) && (is_some timer.due || timer.period == 0))
+is_timer_within timer = is_time timer.due && (nat_le timer.period limits.TICKS && (is_some timer.due || timer.period == 0))
 
 abbrev pub is_timer_taken : List TimerDef → TimerDef → Bool
 is_timer_taken before timer = list_any (λ (other : TimerDef). bytes_eq other.name timer.name) before
@@ -121,7 +123,7 @@ is_task_taken before task = list_any (λ (other : Task). bytes_eq other.name tas
 
 unfoldable pub task_fault : Program → Lines → ℕ → Option JobFault
 task_fault program lines x =
-    unless (is_between 1 4096 (task_def program x).limit) (task_line lines x) OverLimit
+    unless (is_between 1 limits.TASK_LIMIT (task_def program x).limit) (task_line lines x) OverLimit
     or_else unless (not (is_task_taken (take x program.tasks) (task_def program x))) (task_line lines x) Duplicate
     or_else unless (has_thread program (task_def program x).thread.0) (task_line lines x) BadOwner
     or_else first_below (instr_fault program lines x) (length (task_def program x).code)
@@ -132,16 +134,16 @@ kind_fault lines count greatest fault = unless (nat_le count greatest) lines.pro
 
 abbrev pub tasks_fault : Program → Lines → Option JobFault
 tasks_fault program lines =
-    unless (nat_le (length program.tasks) 256) lines.program OverLimit
-    or_else unless (nat_le (code_len program) 4096) lines.program OverLimit
+    unless (nat_le (length program.tasks) limits.TASKS) lines.program OverLimit
+    or_else unless (nat_le (code_len program) limits.INSTRUCTIONS) lines.program OverLimit
     or_else first_below (task_fault program lines) (length program.tasks)
 
 unfoldable pub limit_fault : Program → Lines → Option JobFault
 limit_fault program lines =
-    kind_fault lines (length program.threads) 16 (thread_fault program lines)
-    or_else kind_fault lines (length program.sources) 16 (source_fault program lines)
-    or_else kind_fault lines (length program.pipes) 8 (pipe_fault program lines)
-    or_else kind_fault lines (length program.timers) 8 (timer_fault program lines)
+    kind_fault lines (length program.threads) limits.THREADS (thread_fault program lines)
+    or_else kind_fault lines (length program.sources) limits.SOURCES (source_fault program lines)
+    or_else kind_fault lines (length program.pipes) limits.PIPES (pipe_fault program lines)
+    or_else kind_fault lines (length program.timers) limits.TIMERS (timer_fault program lines)
     or_else tasks_fault program lines
 
 -- Second step: threads without a task, then targets, and code without an end.

@@ -6,7 +6,8 @@ ghost use Rattle.prog_check.specs.Faults.{is_pipe_taken, is_pipe_owned, pipe_fau
 
 use crate::demand::demand;
 use crate::parts::{pipe, timer};
-use crate::threads::{TIMES, has_thread, is_time};
+use crate::threads::{has_thread, is_time};
+use ink_base::limits::{PIPE_PLACES, PIPES, TICKS, TIMERS};
 use ink_base::{Cause, JobFault};
 use task_isa::{Lines, PipeDef, Program, TimerDef};
 
@@ -34,7 +35,7 @@ fn judge_pipe(program: &Program, lines: &Lines, q: usize) -> Result<(), JobFault
     let line = lines.program;
     let before = &program.pipes.as_slice()[..q];
     demand(
-        1 <= pipe.places && pipe.places <= 64,
+        1 <= pipe.places && pipe.places <= PIPE_PLACES,
         line,
         Cause::OverLimit,
     )?;
@@ -44,10 +45,10 @@ fn judge_pipe(program: &Program, lines: &Lines, q: usize) -> Result<(), JobFault
 
 #[tactic(auto, using(crate::proofs::Below::first_below_zero, crate::proofs::Below::first_below_more, crate::proofs::Below::first_below_at))]
 pub fn judge_pipes(program: &Program, lines: &Lines) -> Result<(), JobFault>
-    ensures { result_err result ≡ kind_fault lines.now (length program.now.pipes) 8 (pipe_fault program.now lines.now) }
+    ensures { result_err result ≡ kind_fault lines.now (length program.now.pipes) PIPES (pipe_fault program.now lines.now) }
 {
     let count = program.pipes.len();
-    demand(count <= 8, lines.program, Cause::OverLimit)?;
+    demand(count <= PIPES, lines.program, Cause::OverLimit)?;
     for q in 0..count {
         judge_pipe(program, lines, q)?;
     }
@@ -57,7 +58,7 @@ pub fn judge_pipes(program: &Program, lines: &Lines) -> Result<(), JobFault>
 fn is_timer_within(timer: &TimerDef) -> bool
     ensures { result ≡ is_timer_within timer.now }
 {
-    is_time(timer.due) && timer.period < TIMES && (timer.due.is_some() || timer.period == 0)
+    is_time(timer.due) && timer.period <= TICKS && (timer.due.is_some() || timer.period == 0)
 }
 
 fn is_timer_taken(before: &[TimerDef], timer: &TimerDef) -> bool
@@ -82,10 +83,10 @@ fn judge_timer(program: &Program, lines: &Lines, j: usize) -> Result<(), JobFaul
 
 #[tactic(auto, using(crate::proofs::Below::first_below_zero, crate::proofs::Below::first_below_more, crate::proofs::Below::first_below_at))]
 pub fn judge_timers(program: &Program, lines: &Lines) -> Result<(), JobFault>
-    ensures { result_err result ≡ kind_fault lines.now (length program.now.timers) 8 (timer_fault program.now lines.now) }
+    ensures { result_err result ≡ kind_fault lines.now (length program.now.timers) TIMERS (timer_fault program.now lines.now) }
 {
     let count = program.timers.len();
-    demand(count <= 8, lines.program, Cause::OverLimit)?;
+    demand(count <= TIMERS, lines.program, Cause::OverLimit)?;
     for j in 0..count {
         judge_timer(program, lines, j)?;
     }

@@ -12,6 +12,7 @@ use crate::demand::demand;
 use crate::operands::operands_fit;
 use crate::parts::{instr, instr_line, pipe, task, task_line, timer};
 use crate::threads::has_thread;
+use ink_base::limits::{INSTRUCTIONS, TASK_LIMIT, TASKS};
 use ink_base::{Cause, JobFault};
 use task_isa::{Instr, Lines, Program, Task};
 
@@ -84,7 +85,7 @@ fn judge_task(program: &Program, lines: &Lines, x: usize) -> Result<(), JobFault
     let line = task_line(lines, x);
     let before = &program.tasks.as_slice()[..x];
     demand(
-        1 <= task.limit && task.limit <= 4096,
+        1 <= task.limit && task.limit <= TASK_LIMIT,
         line,
         Cause::OverLimit,
     )?;
@@ -95,9 +96,9 @@ fn judge_task(program: &Program, lines: &Lines, x: usize) -> Result<(), JobFault
 
 /// Whether all tasks together have no more instructions than a program may have.
 fn is_code_within(tasks: &[Task]) -> bool
-    ensures { result ≡ nat_le (sum_by (λ (task : ATask). length task.code) tasks.now) 4096 }
+    ensures { result ≡ nat_le (sum_by (λ (task : ATask). length task.code) tasks.now) INSTRUCTIONS }
 {
-    let mut left = 4096;
+    let mut left = INSTRUCTIONS;
     for task in tasks {
         if left < task.code.len() {
             return false;
@@ -113,7 +114,7 @@ pub fn judge_tasks(program: &Program, lines: &Lines) -> Result<(), JobFault>
     ensures fits { IfOk result (λ _. (x : ℕ) → x < length program.now.tasks → HasFittingCode (task_def program.now x)) }
 {
     let count = program.tasks.len();
-    demand(count <= 256, lines.program, Cause::OverLimit)?;
+    demand(count <= TASKS, lines.program, Cause::OverLimit)?;
     demand(
         is_code_within(program.tasks.as_slice()),
         lines.program,
