@@ -1,5 +1,6 @@
 //! Jobs of texts and their first faults, and whether jobs and their parts are the same.
 
+use ink_base::limits::TEXT_BYTES;
 use ink_base::{Actor, Cause, JobAnswer, JobFault, NoMemory};
 use job_parts::{Charge, Item, Job};
 use power_trace::parse_job;
@@ -22,7 +23,7 @@ pub fn job_text(alloc: Global, readings: &[u8], charges: &[u8]) -> Result<Vec<u8
 
 /// The job of a text.
 pub fn read(alloc: Global, text: &[u8]) -> Result<Job, JobAnswer> {
-    if text.len() > 4194304 {
+    if text.len() > TEXT_BYTES {
         return Err(JobAnswer::NoMemory);
     }
     parse_job(alloc, text)

@@ -1,6 +1,7 @@
 //! Texts that go on behind their charges, and the lines of the charges (power_trace).
 
 use crate::fixtures::{at, job_text};
+use ink_base::limits::TEXT_BYTES;
 use ink_base::{Cause, JobAnswer, JobFault};
 use power_trace::{Tails, parse_parts};
 use std::alloc::Global;
@@ -16,7 +17,7 @@ fn image() -> Tails {
 // The lines of the first and the last charge of a job whose charges begin in line 16, and which token ends them.
 fn ends(alloc: Global, tails: Tails, charges: &[u8]) -> Result<(u32, u32, u32), JobAnswer> {
     let text = job_text(alloc, b"S0 7", charges)?;
-    if text.len() > 4194304 {
+    if text.len() > TEXT_BYTES {
         return Err(JobAnswer::NoMemory);
     }
     let (parts, _tokens, end) = parse_parts(alloc, text.as_slice(), tails)?;
@@ -36,9 +37,17 @@ fn fault(alloc: Global, tails: Tails, charges: &[u8]) -> Option<JobFault> {
 // 42 tokens stand before the charges.
 #[test]
 fn charges_end_at_the_header_behind_them(rt: HostRuntime) -> Result<(), Fail> {
-    let ended = ends(rt.alloc(), image(), b"charge 0 K\n\ncharge 0 T\n[image2]\n00 x\n")?;
+    let ended = ends(
+        rt.alloc(),
+        image(),
+        b"charge 0 K\n\ncharge 0 T\n[image2]\n00 x\n",
+    )?;
     assert_eq!(rt; ended, (16, 18, 48));
-    let nothing = ends(rt.alloc(), image(), b"charge 0 K\n# one\ncharge 0 T\ncharge 1\n")?;
+    let nothing = ends(
+        rt.alloc(),
+        image(),
+        b"charge 0 K\n# one\ncharge 0 T\ncharge 1\n",
+    )?;
     assert_eq!(rt; nothing, (16, 19, 50));
     Ok(())
 }
@@ -53,8 +62,14 @@ fn a_header_that_may_not_follow_is_refused(rt: HostRuntime) {
 
 #[test]
 fn a_header_before_any_charge_is_refused(rt: HostRuntime) {
-    assert_eq!(rt; fault(rt.alloc(), image(), b"\n[image2] x\n"), at(17, Cause::Missing));
-    assert_eq!(rt; fault(rt.alloc(), image(), b"[radio]\n"), at(16, Cause::BadSection));
+    assert_eq!(rt;
+        fault(rt.alloc(), image(), b"\n[image2] x\n"),
+        at(17, Cause::Missing)
+    );
+    assert_eq!(rt;
+        fault(rt.alloc(), image(), b"[radio]\n"),
+        at(16, Cause::BadSection)
+    );
 }
 
 #[test]

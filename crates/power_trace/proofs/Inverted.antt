@@ -5,8 +5,8 @@ use Rattle.ink_base.specs.Lines.{Word, Line}
 use Rattle.ink_base.specs.declared.fault.Cause.{Cause}
 use Rattle.ink_base.specs.declared.fault.JobFault.{JobFault}
 use Rattle.ink_base.specs.Gives.{◌>>=◌, ◌>>◌, at_line}
-use Rattle.task_asm.specs.Section.{is_header}
-use Rattle.power_trace.specs.Walks.{words_in, lines_in}
+use Rattle.ink_text.specs.Section.{is_header, header_end, section_in, lines_in}
+use Rattle.ink_text.specs.Words.{words_in}
 
 pub bound : {A B : Type 0} (r : Result A Cause) (f : A → Result B Cause) (y : B) → (r >>= f) ≡ Ok y → (x : A) × (r ≡ Ok x) × (f x ≡ Ok y)
 bound (Ok x) f y h = (x, refl, h)
@@ -55,3 +55,12 @@ lines_keep P f step (line ∷ ls) s t rest p h =
           let first = bound_line (at_line line.number (f s line.number line.words)) (λ next. lines_in f next ls) (t, rest) k in
           lines_keep P f step ls first.0 t rest (step s line.number line.words first.0 p (in_line line.number (f s line.number line.words) first.0 first.1)) first.2
     ]
+
+-- so does a section
+pub section_keeps : {S : Type 0} (P : S → Type 0) (f : S → ℕ → List Word → Result S Cause) → ((s : S) (number : ℕ) (ws : List Word) (t : S) → P s → f s number ws ≡ Ok t → P t)
+    → (count : ℕ) (ls : List Line) (s : S) (x : S × List Line) → P s → section_in count f s ls ≡ Ok x → P x.0
+unfolding section_in
+section_keeps P f step count [] s x p h = absurd (cc)
+section_keeps P f step count (header ∷ ls) s x p h =
+    let read = bound_line (at_line header.number (header_end header.words)) (λ e. lines_in f s ls) x h in
+    lines_keep P f step ls s x.0 x.1 p read.2

@@ -1,20 +1,23 @@
 -- The readings of a section are within the limits, one list for each source.
 use Rattle.std.proofs.Common.{◌≡◌, ℕ, ◌<◌, ◌≤◌, ◌^◌, List, [], ◌∷◌, ◌++◌, length, get_or, set, Option, Some, None, Result, Ok, Err, ap, ◌∙◌, subst, inl, inr, arith, length-append}
-use Rattle.std.specs.Prelude.{if◌then◌else◌, replicate, nat_lt, nat_le, ◌==◌}
+use Rattle.std.specs.Prelude.{if◌then◌else◌, replicate, nat_lt, nat_le, ◌==◌, codes}
 use Rattle.std.specs.List.{All}
 use Rattle.std.proofs.lemmas.Bool.{cases_Bool, leb-true, ltb-true}
 use Rattle.std.proofs.lemmas.List.Elements.{All-push, All-set, All-replicate}
 use Rattle.std.proofs.lemmas.List.{length-set, length-replicate}
 use Rattle.ink_base.specs.Lines.{Word, Line}
+use Rattle.ink_base.specs.declared.limits.TheConstants as limits
 use Rattle.ink_base.specs.declared.fault.Cause.{Cause}
 use Rattle.ink_base.specs.declared.fault.Cause.TheVariants.{OverLimit}
 use Rattle.ink_base.specs.declared.fault.JobFault.{JobFault}
-use Rattle.ink_base.specs.Gives.{◌>>=◌, ◌>>◌, at_line}
+use Rattle.ink_base.specs.Gives.{◌>>=◌, ◌>>◌}
 use Rattle.ink_base.specs.Checks.{number_of, word_in}
-use Rattle.power_trace.specs.Walks.{words_in, lines_in, header_end, up_to}
-use Rattle.power_trace.specs.Sensors.{index_of, below, source_of, known, value_in, sensor_line, power_header, sensors_end, sensors_in}
+use Rattle.ink_text.specs.Words.{words_in, up_to, found}
+use Rattle.ink_text.specs.Names.{index_of, below, source_of}
+use Rattle.ink_text.specs.Section.{next_header, section_in}
+use Rattle.power_trace.specs.Sensors.{value_in, sensor_line, sensors_in}
 use Rattle.job_parts.specs.Job.{AreReadings}
-use Rattle.power_trace.proofs.Inverted.{bound, bound_line, tested, words_keep, lines_keep, first_same}
+use Rattle.power_trace.proofs.Inverted.{bound, bound_line, tested, words_keep, section_keeps}
 
 pub up_to-le : (greatest : ℕ) (w : Word) (n : ℕ) → up_to greatest w ≡ Ok n → n ≤ greatest
 up_to-le greatest w n h =
@@ -25,9 +28,9 @@ up_to-le greatest w n h =
 
 value_keeps : (values : List ℕ) (w : Word) (next : List ℕ) → AreReadings values → value_in values w ≡ Ok next → AreReadings next
 value_keeps values w next are h =
-    let f : ℕ → Result (List ℕ) Cause = λ value. if nat_lt (length values) 65535 then Ok (values ++ value ∷ []) else Err OverLimit in
+    let f : ℕ → Result (List ℕ) Cause = λ value. if nat_lt (length values) limits.READINGS then Ok (values ++ value ∷ []) else Err OverLimit in
     let read = bound (up_to 4294967295 w) f next h in
-    let t = tested (nat_lt (length values) 65535) (values ++ read.0 ∷ []) next OverLimit read.2 in
+    let t = tested (nat_lt (length values) limits.READINGS) (values ++ read.0 ∷ []) next OverLimit read.2 in
     let more : AreReadings (values ++ read.0 ∷ []) = record {
       count = omega (arith, ltb-true _ _ t.0, length-append values (read.0 ∷ []));
       below = All-push (λ v. v < 2 ^ 32) values read.0 are.below (omega (arith, up_to-le 4294967295 w read.0 read.1));
@@ -50,9 +53,9 @@ source_below count (b ∷ digits) i h =
       | inr other ↦ let k = rw other at h in absurd (cc)
     ]
 
-pub known_is : {X : Type 0} (o : Option X) (x : X) → known o ≡ Ok x → o ≡ Some x
-known_is None x h = absurd (cc)
-known_is (Some y) x h = let same : y ≡ x = cc in ap Some same
+pub found_is : {X : Type 0} (o : Option X) (x : X) → found o ≡ Ok x → o ≡ Some x
+found_is None x h = absurd (cc)
+found_is (Some y) x h = let same : y ≡ x = cc in ap Some same
 
 -- one list for each source, each within the limits
 pub record AreSensors (sources : ℕ) (readings : List (List ℕ)) : Type 0 where
@@ -72,21 +75,14 @@ unfolding sensor_line
 line_keeps sources readings number ws next are h =
     let store : ℕ → List ℕ → Result (List (List ℕ)) Cause = λ i values. Ok (set readings i values) in
     let values : List Word → ℕ → Result (List (List ℕ)) Cause = λ rest i. words_in value_in (get_or readings i []) rest >>= store i in
-    let line : Word × List Word → Result (List (List ℕ)) Cause = λ w. known (source_of (length readings) w.0) >>= values w.1 in
+    let line : Word × List Word → Result (List (List ℕ)) Cause = λ w. found (source_of (length readings) w.0) >>= values w.1 in
     let first = bound (word_in ws) line next h in
-    let source = bound (known (source_of (length readings) first.0.0)) (values first.0.1) next first.2 in
+    let source = bound (found (source_of (length readings) first.0.0)) (values first.0.1) next first.2 in
     let read = bound (words_in value_in (get_or readings source.0 []) first.0.1) (store source.0) next source.2 in
-    let lt = source_below (length readings) first.0.0 source.0 (known_is _ source.0 source.1) in
+    let lt = source_below (length readings) first.0.0 source.0 (found_is _ source.0 source.1) in
     let kept = words_keep AreReadings value_in value_keeps first.0.1 (get_or readings source.0 []) read.0 (are.each source.0 [] lt) read.1 in
     let same : set readings source.0 read.0 ≡ next = cc in
     set_keeps sources readings source.0 read.0 next are kept same
-
-end_keeps : (count : ℕ) (readings : List (List ℕ)) (ls : List Line) (next : List (List ℕ)) (rest : List Line) → sensors_end count readings ls ≡ Ok (next, rest) → readings ≡ next
-unfolding sensors_end
-end_keeps count readings [] next rest h = absurd (cc)
-end_keeps count readings (line ∷ ls) next rest h =
-    let f : Unit {0} → Result (List (List ℕ) × List Line) JobFault = λ e. Ok (readings, line ∷ ls) in
-    first_same readings next (line ∷ ls) rest (bound_line (at_line line.number (power_header line.words)) f (next, rest) h).2
 
 start : (sources : ℕ) → AreSensors sources (replicate sources [])
 start sources = record {
@@ -95,13 +91,11 @@ start sources = record {
 }
 
 -- the section's readings are within the limits
-pub sensors_keep : (count sources : ℕ) (ls : List Line) (readings : List (List ℕ)) (rest : List Line) → sensors_in count sources ls ≡ Ok (readings, rest) → AreSensors sources readings
+pub sensors_keep : (count sources : ℕ) (ls : List Line) (x : List (List ℕ) × List Line) → sensors_in count sources ls ≡ Ok x → AreSensors sources x.0
 unfolding sensors_in
-sensors_keep count sources [] readings rest h = absurd (cc)
-sensors_keep count sources (header ∷ ls) readings rest h =
-    let close : List (List ℕ) × List Line → Result (List (List ℕ) × List Line) JobFault = λ x. sensors_end count x.0 x.1 in
-    let all : Unit {0} → Result (List (List ℕ) × List Line) JobFault = λ e. lines_in (λ readings number. sensor_line readings) (replicate sources []) ls >> close in
-    let a = bound_line (at_line header.number (header_end header.words)) all (readings, rest) h in
-    let b = bound_line (lines_in (λ readings number. sensor_line readings) (replicate sources []) ls) close (readings, rest) a.2 in
-    let kept = lines_keep (AreSensors sources) (λ readings number. sensor_line readings) (line_keeps sources) ls (replicate sources []) b.0.0 b.0.1 (start sources) b.1 in
-    subst (AreSensors sources) (end_keeps count b.0.0 b.0.1 readings rest b.2) kept
+sensors_keep count sources ls x h =
+    let close : List (List ℕ) × List Line → Result (List (List ℕ) × List Line) JobFault = λ y. next_header count (codes "[power]") y.1 >> (λ e. Ok y) in
+    let read = bound_line (section_in count sensor_line (replicate sources []) ls) close x h in
+    let closed = bound_line (next_header count (codes "[power]") read.0.1) (λ e. Ok read.0) x read.2 in
+    let same : read.0 ≡ x = cc in
+    subst (λ (y : List (List ℕ) × List Line). AreSensors sources y.0) same (section_keeps (AreSensors sources) sensor_line (line_keeps sources) count ls (replicate sources []) read.0 (start sources) read.1)

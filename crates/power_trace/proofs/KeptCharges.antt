@@ -9,12 +9,13 @@ use Rattle.std.proofs.lemmas.Bool.Decides.{nat_tests}
 use Rattle.std.proofs.lemmas.List.Elements.{All-push}
 use Rattle.std.proofs.lemmas.List.Sums.{sum_by-append}
 use Rattle.ink_base.specs.Lines.{Word, Line}
+use Rattle.ink_base.specs.declared.limits.TheConstants as limits
 use Rattle.ink_base.specs.declared.actor.Actor.{Actor}
 use Rattle.ink_base.specs.declared.actor.Actor.TheVariants.{Kernel, Source, Clock}
 use Rattle.ink_base.specs.declared.fault.Cause.{Cause}
 use Rattle.ink_base.specs.declared.fault.Cause.TheVariants.{OverLimit, Missing, BadSection}
 use Rattle.ink_base.specs.declared.fault.JobFault.{JobFault}
-use Rattle.ink_base.specs.Gives.{◌>>=◌, ◌>>◌, at_line}
+use Rattle.ink_base.specs.Gives.{◌>>=◌, ◌>>◌}
 use Rattle.ink_base.specs.Checks.{number_of, word_in, fixed_in, number_in, end_in}
 use Rattle.job_parts.specs.declared.item.Item.{Item}
 use Rattle.job_parts.specs.declared.charge.Charge.{Charge}
@@ -22,12 +23,13 @@ use Rattle.power_trace.specs.declared.charges.Charges.{Charges}
 use Rattle.power_trace.specs.declared.charges.Turns.{Turns}
 use Rattle.power_trace.specs.declared.tails.Tails.{Tails}
 use Rattle.power_trace.specs.Tails.{allows, tail_header}
-use Rattle.power_trace.specs.Walks.{words_in, lines_in, header_end}
-use Rattle.power_trace.specs.Sensors.{source_of}
-use Rattle.power_trace.specs.Power.{actor_of, known_actor, cut, count_at, item_of, item_in, room_in, charge_line, power_end, no_charges, power_in}
+use Rattle.ink_text.specs.Words.{words_in}
+use Rattle.ink_text.specs.Names.{source_of, actor_of}
+use Rattle.ink_text.specs.Section.{missing, section_in}
+use Rattle.power_trace.specs.Power.{known_actor, star_of, count_at, item_of, item_in, room_in, charge_line, power_end, no_charges, power_in}
 use Rattle.job_parts.specs.Job.{IsOnBoard, IsRightCharge, item_turns, charge_turns, AreCharges}
-use Rattle.power_trace.proofs.Inverted.{bound, bound_line, in_line, tested, tested_not, words_keep, lines_keep}
-use Rattle.power_trace.proofs.Kept.{source_below, known_is}
+use Rattle.power_trace.proofs.Inverted.{bound, bound_line, in_line, tested, tested_not, words_keep, section_keeps}
+use Rattle.power_trace.proofs.Kept.{source_below, found_is}
 
 mapped : (sources : ℕ) (o : Option ℕ) (actor : Actor) → ((i : ℕ) → o ≡ Some i → i < sources) → option_map (λ i. Source (record { 0 = i })) o ≡ Some actor → IsOnBoard sources actor
 mapped sources None actor below h = absurd (cc)
@@ -49,25 +51,25 @@ item_right : (sources : ℕ) (w : Word) (item : Item) → item_of sources w ≡ 
 unfolding item_of
 item_right sources w item h =
     let made : Actor → ℕ → Result Item Cause = λ actor count. Ok (record { actor = actor; count = count }) in
-    let counted : Actor → Result Item Cause = λ actor. count_at w (cut w) >>= made actor in
-    let named = bound (known_actor sources (take (cut w) w)) counted item h in
-    let count = bound (count_at w (cut w)) (made named.0) item named.2 in
+    let counted : Actor → Result Item Cause = λ actor. count_at w (star_of w) >>= made actor in
+    let named = bound (known_actor sources (take (star_of w) w)) counted item h in
+    let count = bound (count_at w (star_of w)) (made named.0) item named.2 in
     let made_is : ◌≡◌ {A = Item} (record { actor = named.0; count = count.0 }) item = cc in
-    subst (λ (x : Item). IsOnBoard sources x.actor) made_is (on_board sources (take (cut w) w) named.0 (known_is _ named.0 named.1))
+    subst (λ (x : Item). IsOnBoard sources x.actor) made_is (on_board sources (take (star_of w) w) named.0 (found_is _ named.0 named.1))
 
 -- the items of a charge, where so many turns stand before it
 record AreTurns (sources before : ℕ) (t : Turns) : Type 0 where
   pub sum : before + item_turns t.items ≡ t.turns
   pub actors : All (λ (item : Item). IsOnBoard sources item.actor) t.items
-  pub within : t.turns ≤ 4194304
+  pub within : t.turns ≤ limits.TURNS
 
 item_keeps : (sources before : ℕ) (t : Turns) (w : Word) (next : Turns) → AreTurns sources before t → item_in sources t w ≡ Ok next → AreTurns sources before next
 unfolding item_in
 item_keeps sources before t w next are h =
     let more : Item → Turns = λ (item : Item). record { items = t.items ++ item ∷ []; turns = t.turns + item.count } in
-    let f : Item → Result Turns Cause = λ (item : Item). if nat_le (t.turns + item.count) 4194304 then Ok (more item) else Err OverLimit in
+    let f : Item → Result Turns Cause = λ (item : Item). if nat_le (t.turns + item.count) limits.TURNS then Ok (more item) else Err OverLimit in
     let read = bound (item_of sources w) f next h in
-    let ok = tested (nat_le (t.turns + read.0.count) 4194304) (more read.0) next OverLimit read.2 in
+    let ok = tested (nat_le (t.turns + read.0.count) limits.TURNS) (more read.0) next OverLimit read.2 in
     let kept : AreTurns sources before (more read.0) = record {
       sum = omega (arith, are.sum, sum_by-append (λ (item : Item). item.count) t.items (read.0 ∷ []));
       actors = All-push (λ (item : Item). IsOnBoard sources item.actor) t.items read.0 are.actors (item_right sources w read.0 read.1);
@@ -89,16 +91,16 @@ number_le greatest ws x h =
 record AreCharged (board : ℕ) (c : Charges) : Type 0 where
   pub sources : c.sources ≡ board
   pub lines : length c.lines ≡ length c.list
-  pub count : length c.list ≤ 4096
+  pub count : length c.list ≤ limits.CHARGES
   pub right : All (IsRightCharge board) c.list
   pub sum : charge_turns c.list ≡ c.turns
-  pub within : c.turns ≤ 4194304
+  pub within : c.turns ≤ limits.TURNS
 
 -- one more charge at a line, and the turns of all
 abbrev with_charge : Charges → (number off : ℕ) → Turns → Charges
 with_charge c number off t = record c { list = c.list ++ record { off = off; items = t.items } ∷ []; lines = c.lines ++ number ∷ []; turns = t.turns }
 
-charge_more : (sources number off : ℕ) (c : Charges) (t : Turns) (next : Charges) → AreCharged sources c → length c.list < 4096 → off ≤ 2147483647 → AreTurns sources c.turns t → with_charge c number off t ≡ next
+charge_more : (sources number off : ℕ) (c : Charges) (t : Turns) (next : Charges) → AreCharged sources c → length c.list < limits.CHARGES → off ≤ limits.TICKS → AreTurns sources c.turns t → with_charge c number off t ≡ next
     → AreCharged sources next
 charge_more sources number off c t next are room within turns same =
     let charge : Charge = record { off = off; items = t.items } in
@@ -119,18 +121,18 @@ charge_keeps sources c number ws next are h =
     let begun : Turns = record { items = []; turns = c.turns } in
     let made : ℕ → Turns → Result Charges Cause = λ off t. Ok (with_charge c number off t) in
     let listed : ℕ × List Word → Result Charges Cause = λ off. words_in (item_in c.sources) begun off.1 >>= made off.0 in
-    let timed : List Word → Unit {0} → Result Charges Cause = λ rest room. number_in 0 2147483647 rest >>= listed in
+    let timed : List Word → Unit {0} → Result Charges Cause = λ rest room. number_in 0 limits.TICKS rest >>= listed in
     let counted : List Word → Result Charges Cause = λ rest. room_in c >>= timed rest in
     let first = bound (fixed_in (codes "charge") ws) counted next h in
     let room = bound (room_in c) (timed first.0) next first.2 in
-    let off = bound (number_in 0 2147483647 first.0) listed next room.2 in
+    let off = bound (number_in 0 limits.TICKS first.0) listed next room.2 in
     let turns = bound (words_in (item_in c.sources) begun off.0.1) (made off.0.0) next off.2 in
-    let roomy = tested (nat_lt (length c.list) 4096) tt room.0 OverLimit room.1 in
+    let roomy = tested (nat_lt (length c.list) limits.CHARGES) tt room.0 OverLimit room.1 in
     let none : AreTurns c.sources c.turns begun = record { sum = omega arith; actors = λ k d lt. absurd (omega arith); within = are.within } in
     let kept = words_keep (AreTurns c.sources c.turns) (item_in c.sources) (item_keeps c.sources c.turns) off.0.1 begun turns.0 none turns.1 in
     let board = subst (λ (n : ℕ). AreTurns n c.turns turns.0) are.sources kept in
     let same : with_charge c number off.0.0 turns.0 ≡ next = cc in
-    charge_more sources number off.0.0 c turns.0 next are (ltb-true _ _ roomy.0) (number_le 2147483647 first.0 off.0 off.1) board same
+    charge_more sources number off.0.0 c turns.0 next are (ltb-true _ _ roomy.0) (number_le limits.TICKS first.0 off.0 off.1) board same
 
 -- charges within the limits, each with a line
 pub record AreListed (sources : ℕ) (c : Charges) : Type 0 where
@@ -161,27 +163,21 @@ tail_keeps tails charges (w ∷ ws) x h =
           ]
     ]
 
-end_keeps : (count sources : ℕ) (tails : Tails) (c : Charges) (ls : List Line) (x : Charges × List Line) → AreCharged sources c → power_end count tails c ls ≡ Ok x → AreListed sources x.0
+end_keeps : (count : ℕ) (tails : Tails) (charges : ℕ) (ls : List Line) (x : Unit {0}) → power_end count tails charges ls ≡ Ok x → 0 < charges
 unfolding power_end
-end_keeps count sources tails c [] x are h =
-    let some = tested_not (length c.list == 0) (c, []) x _ h in
-    listed sources c x.0 are (grind (arith, nat_tests, some.0)) (ap (λ (y : Charges × List Line). y.0) some.1)
-end_keeps count sources tails c (line ∷ ls) x are h =
-    let ended : Unit {0} → Result (Charges × List Line) JobFault = λ e. Ok (c, line ∷ ls) in
-    let a = bound_line (at_line line.number (tail_header tails (length c.list) line.words)) ended x h in
-    let some = tail_keeps tails (length c.list) line.words a.0 (in_line line.number _ a.0 a.1) in
-    let same : (c, line ∷ ls) ≡ x = cc in
-    listed sources c x.0 are some (ap (λ (y : Charges × List Line). y.0) same)
+end_keeps count tails charges [] x h =
+    let some = tested_not (charges == 0) tt x (missing count []) h in
+    grind (arith, nat_tests, some.0)
+end_keeps count tails charges (line ∷ ls) x h = tail_keeps tails charges line.words x (in_line line.number (tail_header tails charges line.words) x h)
 
 -- the section's charges are within the limits, and each has its line
 pub power_keep : (count : ℕ) (tails : Tails) (sources : ℕ) (ls : List Line) (x : Charges × List Line) → power_in count tails sources ls ≡ Ok x → AreListed sources x.0
 unfolding power_in
-power_keep count tails sources [] x h = absurd (cc)
-power_keep count tails sources (header ∷ ls) x h =
-    let close : Charges × List Line → Result (Charges × List Line) JobFault = λ y. power_end count tails y.0 y.1 in
-    let all : Unit {0} → Result (Charges × List Line) JobFault = λ e. lines_in charge_line (no_charges sources) ls >> close in
-    let a = bound_line (at_line header.number (header_end header.words)) all x h in
-    let b = bound_line (lines_in charge_line (no_charges sources) ls) close x a.2 in
+power_keep count tails sources ls x h =
+    let close : Charges × List Line → Result (Charges × List Line) JobFault = λ y. power_end count tails (length y.0.list) y.1 >> (λ e. Ok y) in
+    let read = bound_line (section_in count charge_line (no_charges sources) ls) close x h in
+    let closed = bound_line (power_end count tails (length read.0.0.list) read.0.1) (λ e. Ok read.0) x read.2 in
+    let same : read.0 ≡ x = cc in
     let none : AreCharged sources (no_charges sources) = record { sources = refl; lines = refl; count = omega arith; right = λ k d lt. absurd (omega arith); sum = refl; within = omega arith } in
-    let kept = lines_keep (AreCharged sources) charge_line (charge_keeps sources) ls (no_charges sources) b.0.0 b.0.1 none b.1 in
-    end_keeps count sources tails b.0.0 b.0.1 x kept b.2
+    let kept = section_keeps (AreCharged sources) charge_line (charge_keeps sources) count ls (no_charges sources) read.0 none read.1 in
+    listed sources read.0.0 x.0 kept (end_keeps count tails (length read.0.0.list) read.0.1 closed.0 closed.1) (ap (λ (y : Charges × List Line). y.0) same)

@@ -1,4 +1,3 @@
-pub mod Walks
 pub mod Sensors
 pub mod Tails
 pub mod Power

@@ -39,6 +39,7 @@ drawn_items number first =
     ∷ record { actor = Clock; count = draw number (first + 4) % 4 }
     ∷ []
 
+-- the charge of the draws from the first one on
 abbrev pub drawn_charge : ℕ → ℕ → Charge
 drawn_charge number first = record { off = draw number first % 8; items = drawn_items number first }
 
@@ -58,13 +59,15 @@ last_charge = record {
       ∷ [];
 }
 
+-- the drawn charges, and the long one
 abbrev pub soak_charges : ℕ → List Charge
 soak_charges number = drawn_charges number 200 ++ last_charge ∷ []
 
--- the program: a thread fed by two sources, with a task that adds up what it is given and puts out each sum
+-- a task that adds up what it is given and puts out each sum
 abbrev pub soak_code : List Instr
 soak_code = Li 1 0 ∷ Ld 2 1 ∷ Ev 3 ∷ Add 2 2 3 ∷ St 2 1 ∷ Out 2 ∷ Done ∷ []
 
+-- the program: a thread fed by two sources, with that task
 abbrev pub soak_program : Program
 soak_program = record {
   threads = record { name = codes "a"; priority = 1; queue = 4; state = 1; log = 4096; expires = None } ∷ [];

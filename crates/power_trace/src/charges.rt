@@ -3,22 +3,16 @@
 ghost use Rattle.std.specs.Prelude.{◌≡◌, ◌≤◌, ◌==◌, length, position, take, drop, IfOk};
 ghost use Rattle.ink_base.specs.Checks.{words_of};
 ghost use Rattle.ink_base.specs.Gives.{Gives, Leaves};
-ghost use Rattle.power_trace.specs.Walks.{words_in};
-ghost use Rattle.power_trace.specs.Power.{known_actor, cut, count_at, item_of, item_in, room_in, charge_line};
+ghost use Rattle.ink_text.specs.Words.{words_in};
+ghost use Rattle.power_trace.specs.Power.{known_actor, star_of, count_at, item_of, item_in, room_in, charge_line};
 
-use crate::names::actor;
-use crate::numbers::up_to;
-use crate::section::Section;
 use ink_base::checks::{fixed, number, word};
+use ink_base::limits::{CHARGES, TICKS, TURNS};
 use ink_base::{Actor, Cause, LineError, Token};
+use ink_text::{Section, actor, up_to};
 use job_parts::{Charge, Item};
 use sqlite_items::Items;
 use std::alloc::Global;
-
-// The most turns that a job lists, and the most charges.
-const TURNS: u64 = 4194304;
-
-const CHARGES: usize = 4096;
 
 /// The items of a charge so far, and the turns of the whole job so far.
 #[derive(Drop)]
@@ -55,7 +49,7 @@ impl Charges {
 
 // The place of the first `*`, or the length.
 fn star(word: &[u8]) -> usize
-    ensures same { result ≡ cut word.now }
+    ensures same { result ≡ star_of word.now }
     ensures within { result ≤ length word.now }
 {
     word.iter().take_while(|b| **b != b'*').count()
@@ -74,19 +68,19 @@ fn known_actor(sources: u8, name: &[u8]) -> Result<Actor, LineError>
 fn count_at(word: &[u8], star: usize) -> Result<u64, LineError>
     requires { star ≤ length word.now }
     ensures given { Gives (λ n. n) result (count_at word.now star) }
-    ensures within { IfOk result (λ n. n ≤ 4194304) }
+    ensures within { IfOk result (λ n. n ≤ TURNS) }
 {
     if star == word.len() {
         Ok(1)
     } else {
-        up_to(TURNS, &word[star + 1..])
+        up_to(u64::from(TURNS), &word[star + 1..])
     }
 }
 
 #[tactic(auto, unfolding(crate::specs::Power::item_of))]
 fn read_item(sources: u8, word: &[u8]) -> Result<Item, LineError>
     ensures given { Gives (λ item. item) result (item_of sources word.now) }
-    ensures within { IfOk result (λ item. item.count ≤ 4194304) }
+    ensures within { IfOk result (λ item. item.count ≤ TURNS) }
 {
     let star = star(word);
     let actor = known_actor(sources, &word[..star])?;
@@ -103,7 +97,7 @@ fn add_item(sources: u8, so_far: &mut Turns, word: &[u8]) -> Result<(), LineErro
 {
     let item = read_item(sources, word)?;
     let turns = u64::from(so_far.turns) + u64::from(item.count);
-    if turns > TURNS {
+    if turns > u64::from(TURNS) {
         return Err(LineError::Fault(Cause::OverLimit));
     }
     so_far.items.push(item)?;
@@ -135,6 +129,8 @@ fn room(charges: &Charges) -> Result<(), LineError>
 impl Section for Charges {
     ghost line = { charge_line };
 
+    ghost keeps = { λ _. Unit {0} };
+
     #[tactic(auto, unfolding(crate::specs::Power::charge_line))]
     fn read_line(
         &mut self,
@@ -145,7 +141,7 @@ impl Section for Charges {
     ) -> Result<(), LineError> {
         let rest = fixed(text, words, b"charge")?;
         room(self)?;
-        let (off, items) = number(text, rest, 0, 2147483647)?;
+        let (off, items) = number(text, rest, 0, u64::from(TICKS))?;
         let mut so_far = Turns {
             items: Items::new(alloc),
             turns: self.turns,

@@ -3,13 +3,9 @@
 
 mod charges;
 mod generator;
-mod headers;
-mod names;
-mod numbers;
 mod parse;
 mod power;
 mod readings;
-mod section;
 mod sensors;
 mod soak;
 mod soak_program;

@@ -9,6 +9,7 @@ ghost use Rattle.power_trace.specs.Parse.{checked, parts_at, job_at};
 use crate::power::read_charges;
 use crate::sensors::read_sensors;
 use crate::tails::Tails;
+use ink_base::limits::TEXT_BYTES;
 use ink_base::{JobAnswer, Tokens, job_tokens};
 use job_parts::Job;
 use prog_check::{Accepted, check};
@@ -43,7 +44,7 @@ pub fn parse_parts(
     text: &[u8],
     tails: Tails,
 ) -> Result<(Parts, Tokens, u32), JobAnswer>
-    requires { length text.now ≤ 4194304 }
+    requires { length text.now ≤ TEXT_BYTES }
     ensures given { GivesJob (λ x. (x.0, token_lines text.now (drop x.2 x.1.list.items))) result (parts_at tails text.now) }
     ensures tokens { IfOk result (λ x. AreTokens text.now x.1.list.items x.1.lines) }
     ensures within { IfOk result (λ x. x.2 ≤ length x.1.list.items) }
@@ -65,7 +66,7 @@ pub fn parse_parts(
 /// it where nothing may follow.
 #[tactic(auto, unfolding(crate::specs::Parse::job_at))]
 pub fn parse_job(alloc: Global, text: &[u8]) -> Result<Job, JobAnswer>
-    requires { length text.now ≤ 4194304 }
+    requires { length text.now ≤ TEXT_BYTES }
     ensures { GivesJob (λ job. job) result (job_at text.now) }
 {
     let (parts, _tokens, _end) = parse_parts(alloc, text, Tails::none())?;

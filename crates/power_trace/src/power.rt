@@ -1,21 +1,21 @@
 //! The section of the power trace.
 
-ghost use Rattle.std.specs.Prelude.{◌≡◌, ◌<◌, ◌≤◌, ◌^◌, ℕ, length, drop, IfOk};
+ghost use Rattle.std.specs.Prelude.{◌≡◌, ◌<◌, ◌≤◌, ◌^◌, length, drop, IfOk};
 ghost use Rattle.ink_base.specs.Checks.{words_of};
 ghost use Rattle.ink_base.specs.Lines.{lines};
 ghost use Rattle.ink_base.specs.Gives.{GivesJob, at_line};
 ghost use Rattle.ink_base.specs.Suffix.{IsSuffix};
 ghost use Rattle.ink_base.specs.TokenLines.{token_lines};
 ghost use Rattle.ink_base.specs.Tokens.{AreTokens};
-ghost use Rattle.power_trace.specs.Power.{power_end, power_in, last_power_in};
 ghost use Rattle.power_trace.specs.Tails.{tail_header};
+ghost use Rattle.power_trace.specs.Power.{power_end, power_in, last_power_in};
 
 use crate::charges::Charges;
-use crate::headers::{judged_end, missing};
-use crate::section::read_lines;
 use crate::tails::{Tails, tail_header};
+use ink_base::limits::TEXT_BYTES;
 use ink_base::lines::split_line;
 use ink_base::{JobAnswer, Token, Tokens};
+use ink_text::{index_of, missing, read_section, tokens_from};
 use job_parts::Charge;
 use prog_check::Accepted;
 use sqlite_items::Items;
@@ -36,27 +36,26 @@ fn judged_tail(
     }
 }
 
-// The end of the section, and the tokens of the one that follows, if one does.
+// The end of the section behind so many charges.
 #[tactic(auto, unfolding(crate::specs::Power::power_end))]
 fn power_end(
-    charges: Charges,
     tails: Tails,
+    charges: usize,
     text: &[u8],
     lines: u32,
     tokens: &[Token],
-) -> Result<Charges, JobAnswer>
+) -> Result<(), JobAnswer>
     requires { lines < 2 ^ 31 }
-    ensures { GivesJob (λ read. (read, token_lines text.now tokens.now)) result (power_end lines tails charges (token_lines text.now tokens.now)) }
+    ensures { GivesJob (λ x. x) result (power_end lines tails charges (token_lines text.now tokens.now)) }
 {
     if !tokens.is_empty() {
         let (line, words, _rest) = split_line(tokens);
-        judged_tail(tails, charges.list.len(), text, line, words)?;
-        return Ok(charges);
+        return judged_tail(tails, charges, text, line, words);
     }
-    if charges.list.is_empty() {
-        return Err(missing(lines));
+    if charges == 0 {
+        return Err(JobAnswer::Fault(missing(lines, tokens)));
     }
-    Ok(charges)
+    Ok(())
 }
 
 // The charges, and the tokens from the next header on.
@@ -73,14 +72,9 @@ fn power<'a>(
     ensures given { GivesJob (λ x. (x.0, token_lines text.now x.1.now)) result (power_in lines tails sources (token_lines text.now tokens.now)) }
     ensures suffix { IfOk result (λ x. IsSuffix x.1.now tokens.now) }
 {
-    if tokens.is_empty() {
-        return Err(missing(lines));
-    }
-    let (line, words, rest) = split_line(tokens);
-    judged_end(text, line, words)?;
     let mut charges = Charges::none(alloc, sources);
-    let rest = read_lines(&mut charges, alloc, text, rest)?;
-    let charges = power_end(charges, tails, text, lines, rest)?;
+    let rest = read_section(&mut charges, alloc, text, lines, tokens)?;
+    power_end(tails, charges.list.len(), text, lines, rest)?;
     Ok((charges, rest))
 }
 
@@ -95,17 +89,16 @@ pub fn read_charges(
     tails: Tails,
     program: &Accepted,
 ) -> Result<(Charges, u32), JobAnswer>
-    requires short { length text.now ≤ 4194304 }
+    requires short { length text.now ≤ TEXT_BYTES }
     requires tokens { AreTokens text.now tokens.now.list.items tokens.now.lines }
     requires at { at ≤ length tokens.now.list.items }
     ensures given { GivesJob (λ x. (x.0, token_lines text.now (drop x.1 tokens.now.list.items))) result (power_in (length (lines text.now)) tails (length program.now.sources) (token_lines text.now (drop at tokens.now.list.items))) }
     ensures within { IfOk result (λ x. x.1 ≤ length tokens.now.list.items) }
 {
-    let sources = program.program().sources.len();
-    let all = tokens.list.as_slice();
-    let (_before, from) = all.split_at(at as usize);
-    match power(alloc, text, tails, tokens.lines, sources as u8, from) {
-        Ok((charges, rest)) => Ok((charges, (all.len() - rest.len()) as u32)),
+    let sources = program.program().sources.len() as u8;
+    let from = tokens_from(tokens, at);
+    match power(alloc, text, tails, tokens.lines, sources, from) {
+        Ok((charges, rest)) => Ok((charges, index_of(tokens, rest))),
         Err(e) => Err(e),
     }
 }
@@ -122,7 +115,7 @@ pub fn read_power(
     at: u32,
     program: &Accepted,
 ) -> Result<Items<Charge>, JobAnswer>
-    requires short { length text.now ≤ 4194304 }
+    requires short { length text.now ≤ TEXT_BYTES }
     requires tokens { AreTokens text.now tokens.now.list.items tokens.now.lines }
     requires at { at ≤ length tokens.now.list.items }
     ensures { GivesJob (λ list. list) result (last_power_in (length (lines text.now)) (length program.now.sources) (token_lines text.now (drop at tokens.now.list.items))) }

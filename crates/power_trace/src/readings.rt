@@ -1,16 +1,12 @@
 //! The readings as far as they are read.
 
-use crate::names::source;
-use crate::numbers::up_to;
-use crate::section::Section;
 use ink_base::checks::{first, word};
+use ink_base::limits::READINGS;
 use ink_base::{Cause, LineError, Token};
+use ink_text::{Section, source, up_to};
 use sqlite_items::Items;
 use std::alloc::{AllocError, Global};
 use std::marker::Model;
-
-// The most readings that a source has.
-const READINGS: usize = 65535;
 
 /// The readings of each source so far. Contracts see them as a list of lists.
 #[derive(Drop)]
@@ -52,7 +48,7 @@ impl Readings {
 ghost use Rattle.std.specs.Prelude.{◌≡◌};
 ghost use Rattle.ink_base.specs.Checks.{words_of};
 ghost use Rattle.ink_base.specs.Gives.{Leaves};
-ghost use Rattle.power_trace.specs.Walks.{words_in};
+ghost use Rattle.ink_text.specs.Words.{words_in};
 ghost use Rattle.power_trace.specs.Sensors.{value_in, sensor_line};
 
 fn read_value(values: &mut Items<u32>, word: &[u8]) -> Result<(), LineError>
@@ -78,7 +74,9 @@ fn read_values(values: &mut Items<u32>, text: &[u8], words: &[Token]) -> Result<
 }
 
 impl Section for Readings {
-    ghost line = { λ readings _. sensor_line readings };
+    ghost line = { sensor_line };
+
+    ghost keeps = { λ _. Unit {0} };
 
     #[tactic(auto, unfolding(crate::specs::Sensors::sensor_line))]
     fn read_line(

@@ -1,6 +1,6 @@
 use Rattle.std.proofs.Common.{◌≡◌, drop}
 use Rattle.ink_base.specs.Checks.{words_of}
-use Rattle.power_trace.specs.Walks.{words_in}
+use Rattle.ink_text.specs.Words.{words_in}
 use Rattle.power_trace.specs.Power.{item_in}
 use Rattle.power_trace.proofs.charges.add_items.Given as goal
 

@@ -9,7 +9,7 @@ use Rattle.power_trace.proofs.parse.parse_parts.Goals as goal
 
 pub new-requires : goal.new-requires
 new-requires c =
-    let sensors = sensors_keep _ _ _ _ _ c.in_ok-readings.ensures.given in
+    let sensors = sensors_keep _ _ _ _ c.in_ok-readings.ensures.given in
     record {
       accepted = rw (← c.accepted.view_is) c.accepted.invariant;
       sources = sensors.lists;
