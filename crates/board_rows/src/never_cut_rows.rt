@@ -1,10 +1,12 @@
 //! Journals that were worked out by hand, of a thread that sums its readings and puts each sum out.
 
 ghost use Rattle.std.specs.Prelude.{◌≤◌, ◌<◌, ◌^◌, length};
+ghost use Rattle.never_cut.specs.Within.{AreReadings};
 
 use crate::fixtures::{SUMMING, job};
 use ink_base::{Entry, NoMemory, Output, SourceId, ThreadId};
-use never_cut::{Model, ReplayFault, SourceModel, ThreadModel, replay};
+use never_cut::{Model, ReplayFault, SourceModel, ThreadModel, replay, replay_from};
+use prog_check::Accepted;
 use sqlite_items::Items;
 use std::alloc::Global;
 use std::test::Fail;
@@ -94,6 +96,39 @@ fn output(value: u32) -> Option<Output> {
     })
 }
 
+// The state after these entries, which are replayed from the state in which nothing has happened.
+fn after_first(
+    alloc: Global,
+    program: &Accepted,
+    readings: &[Items<u32>],
+    entries: &[Entry],
+) -> Result<Model, ReplayFault>
+    requires readings { AreReadings program.now readings.now }
+    requires few_entries { length entries.now < 2 ^ 32 }
+{
+    let first = replay(alloc, program, readings, &[])?;
+    replay_from(alloc, &first, program, readings, entries)
+}
+
+fn counts_after_first(
+    alloc: Global,
+    readings: &[u32],
+    entries: &[Entry],
+) -> Result<[usize; 5], ReplayFault>
+    requires few_readings { length readings.now ≤ 65535 }
+    requires few_entries { length entries.now < 2 ^ 32 }
+{
+    let (accepted, _, _) = job(alloc, SUMMING)
+        .or(Err(ReplayFault::NoMemory))?
+        .into_parts();
+    let readings = [Items::from_slice(alloc, readings).map_err(NoMemory::from)?];
+    if accepted.program().sources.len() == 1 {
+        Ok(counts_of(&after_first(alloc, &accepted, &readings, entries)?))
+    } else {
+        Err(ReplayFault::NoMemory)
+    }
+}
+
 // The index of the first entry that isn't legal.
 fn illegal(alloc: Global, readings: &[u32], entries: &[Entry]) -> Option<u32>
     requires few_readings { length readings.now ≤ 65535 }
@@ -152,6 +187,16 @@ fn a_refused_reading_may_still_be_pushed(rt: HostRuntime) -> Result<(), Fail> {
         [1, 1, 2, 3, 1]
     );
     assert_eq!(rt; last_output(rt.alloc(), &readings, &entries)?, output(7));
+    Ok(())
+}
+
+#[test]
+fn a_replay_goes_on_from_a_first_state(rt: HostRuntime) -> Result<(), Fail> {
+    let served = [TICK, PUSH, Entry::Scan, COMMIT, TICK];
+    assert_eq!(rt;
+        counts_after_first(rt.alloc(), &[7], &served)?,
+        [1, 1, 1, 1, 1]
+    );
     Ok(())
 }
 

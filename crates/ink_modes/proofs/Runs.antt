@@ -50,7 +50,7 @@ module _ (job : JobParts) (first : List ℕ) (r : RunRecord) (is : IsJob job) (i
     in_order = readings_in_order job.program job.readings (open_model job.program) (journal_in r) start.sound.shape.sources legal_in;
     each_once = each_event_once job.program job.readings (open_model job.program) (journal_in r) (sound_turns job.program job.readings (open_model job.program) start.sound) legal_in;
     states = states_by_commits job.program job.readings (open_model job.program) (journal_in r) start.sound.shape.threads;
-    stamps = stamps_by_commits job.program job.readings (open_model job.program) (journal_in r) start.stamps legal_in;
+    stamps = stamps_by_commits job.program job.readings (open_model job.program) (journal_in r) start.sound.stamps legal_in;
     scanned = subst (λ (l : List ChargeRecord). ChargesAreScanned l) (sym charges) (run_scanned job first is);
   }
 

@@ -82,7 +82,7 @@ module _ (job : JobParts) (l : Layout) (b : Board) (room : ℕ) (ps : List Pushe
   S = setup_of job
 
   pub stands : BoardStands (setup_of job) b
-  stands = board_stands (setup_of job) (length job.charges) b h.is_setup h.holds
+  stands = board_stands (setup_of job) (length job.charges) b h.is_setup h.holds (lasts_less (room + turns_from job b.begun) 0 (state (setup_of job) b) (omega arith) h.range.counts)
 
   counts_room : 0 < room → Lasts 0 (state (setup_of job) b)
   counts_room some = lasts_less (room + turns_from job b.begun) 0 (state (setup_of job) b) (omega arith) h.range.counts

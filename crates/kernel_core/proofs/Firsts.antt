@@ -26,7 +26,7 @@ use Rattle.never_cut.specs.Start.{CanStart}
 use Rattle.never_cut.specs.Within.{AreShort}
 use Rattle.never_cut.proofs.Lasting.{lasts_less, open_lasts}
 use Rattle.never_cut.proofs.Starts.{open_starts}
-use Rattle.never_cut.proofs.Finished.{one_after}
+use Rattle.never_cut.proofs.SoundStates.{sound_after}
 use Rattle.reboot.proofs.Boots.{boot_begins}
 use Rattle.kernel_core.specs.Record.{ChargeRecord, not_begun, charge_of}
 use Rattle.kernel_core.specs.Board.{Setup, Board, shape, sides, row_of, journal, moved_by, first_board}
@@ -159,12 +159,12 @@ first_holds s words charges g stands =
 pub every_prefix : EveryPrefixStands
 every_prefix s words charges moves g stands are range n =
     let board : Board = first_board s words charges in
-    board_stands s charges (moved_by s board (take n moves)) g
-    (moves_hold s charges board (take n moves) g (first_holds s words charges g stands) (moves_taken s charges 0 n moves are)
+    let held = moves_hold s charges board (take n moves) g (first_holds s words charges g stands) (moves_taken s charges 0 n moves are)
     (record {
       clock = let few = ticks_taken n moves in let c = range.clock in omega arith;
       counts = lasts_less (turns moves) (turns (take n moves)) s.first (turns_taken n moves) range.counts;
-    }))
+    }) in
+    board_stands s charges (moved_by s board (take n moves)) g held.0 held.1
 
 -- from the first image on, too
 pub image_prefixes : ImagePrefixesStand
@@ -180,6 +180,6 @@ image_prefixes s words charges moves b are short few n =
 
 -- no journal makes a second finished event
 pub one_is_finished : OneIsFinished
-one_is_finished s words charges moves g stands are range one n =
+one_is_finished s words charges moves g stands are range n =
     let legal = (every_prefix s words charges moves g stands are range n).legal in
-    one_after s.program s.readings s.first (journal (moved_by s (first_board s words charges) (take n moves))) g.accepted g.short g.start.sound legal one
+    (sound_after s.program s.readings s.first (journal (moved_by s (first_board s words charges) (take n moves))) g.accepted g.short g.start.sound legal).one

@@ -161,7 +161,7 @@ module _ (job : JobParts) (words : List ℕ) (is : IsJob job) (image : IsFirstIm
       (record {
         clock = let few = ticks_taken n (moves job.charges) in let all = job_ticks job is in omega arith;
         counts = lasts_less (turns (moves job.charges)) (turns (take n (moves job.charges))) (open_model job.program) (turns_taken n (moves job.charges)) (job_range job is).counts;
-      })).size
+      })).0.size
 
   -- the journal after the first cuts and turns is a beginning of the whole run's
   pub run_grows : (n : ℕ) → (more : List Entry) × (journal (run (setup_of job) words job.charges) ≡ journal (run_first (setup_of job) words job.charges n) ++ more)

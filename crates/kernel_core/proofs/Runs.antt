@@ -4,6 +4,7 @@ use Rattle.ink_base.specs.declared.actor.Actor.{Actor}
 use Rattle.ink_base.specs.declared.actor.Actor.TheVariants as actors
 use Rattle.push_core.specs.Table.{is_left}
 use Rattle.never_cut.specs.Entries.{readings_of}
+use Rattle.never_cut.specs.Within.{Lasts}
 use Rattle.never_cut.proofs.Lasting.{lasts_less}
 use Rattle.kernel_core.specs.Board.{Setup, Board, Move, Cut, Turn, turn, cut, source_made, row_of, moved_by}
 use Rattle.kernel_core.specs.First.{IsSetup}
@@ -42,9 +43,10 @@ after_cut s count b off ticks turns go h left range = record {
   counts = cut_lasts s count b off turns h left range.counts;
 }
 
+-- the board after all moves holds, and its counts fit their words
 pub moves_hold : (s : Setup) (count : ℕ) (b : Board) (moves : List Move) → IsSetup s → Holds s count b → AreMoves s count b.begun moves → IsInRange (state s b) (ticks moves) (turns moves) →
-    Holds s count (moved_by s b moves)
-moves_hold s count b [] g h are range = h
+    Holds s count (moved_by s b moves) × Lasts 0 (state s (moved_by s b moves))
+moves_hold s count b [] g h are range = (h, range.counts)
 moves_hold s count b (Cut off ∷ moves) g h are range =
     let go = cut_goes s count b off g h are.0 (let c = range.clock in omega arith) in
     moves_hold s count (cut s b off) moves g go.holds are.1 (after_cut s count b off (ticks moves) (turns moves) go h are.0 (record { clock = range.clock; counts = lasts_less (turns (Cut off ∷ moves)) (turns moves) (state s b) (omega arith) range.counts }))

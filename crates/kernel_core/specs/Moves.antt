@@ -50,7 +50,7 @@ pub record IsInRange (m : Model) (ticks turns : ℕ) : Type 0 where
   pub counts : Lasts turns m
 
 -- From any words that stand for a state at which a run can begin, and whatever order of turns and cuts is listed: after each of them the journal so far is
--- legal, and the words stand for the never-cut kernel after it.
+-- legal, and the words stand for the never-cut kernel after it and are an image.
 abbrev pub EveryPrefixStands : Type 0
 EveryPrefixStands =
     (s : Setup) (words : List ℕ) (charges : ℕ) (moves : List Move) → IsSetup s → StandsFirst s words → AreMoves s charges 0 moves → IsInRange s.first (ticks moves) (turns moves) →
@@ -69,8 +69,8 @@ ImagePrefixesStand =
     (s : Setup) (words : List ℕ) (charges : ℕ) (moves : List Move) → BeginsAtImage s words → AreMoves s charges 0 moves → ticks moves < 2 ^ 47 → turns moves + 1 < 2 ^ 32 →
     (n : ℕ) → BoardStands s (moved_by s (first_board s words charges) (take n moves))
 
--- and at most one thread has a finished event after each of them, where it was so at first
+-- and at most one thread has a finished event after each of them
 abbrev pub OneIsFinished : Type 0
 OneIsFinished =
     (s : Setup) (words : List ℕ) (charges : ℕ) (moves : List Move) → IsSetup s → StandsFirst s words → AreMoves s charges 0 moves → IsInRange s.first (ticks moves) (turns moves) →
-    AtMostOneFinished s.program s.first → (n : ℕ) → AtMostOneFinished s.program (state s (moved_by s (first_board s words charges) (take n moves)))
+    (n : ℕ) → AtMostOneFinished s.program (state s (moved_by s (first_board s words charges) (take n moves)))

@@ -5,8 +5,8 @@ ghost use Rattle.kernel_core.specs.Scanned.{EveryCommitScanned};
 
 /// The law of the board, for every accepted program, any readings within the limits, any first words that stand for a state at which a
 /// run can begin, and every order of turns of sources, clock and kernel and of cuts. After each access and each cut the one journal kept
-/// so far is legal, and the words of the FRAM stand for the never-cut kernel after it. The first image has such words. At most one thread
-/// has a finished event, where it is so of the first state.
+/// so far is legal, and the words of the FRAM stand for the never-cut kernel after it and are an image of the program, which another run
+/// can begin at unless it is worn. The first image has such words. At most one thread has a finished event.
 ///
 /// No pick outlives a cut: of every program, from any words on and in any such order, each commit stands behind a scan of the same charge.
 pub fn boards_stand()

@@ -23,7 +23,7 @@ use Rattle.task_run.specs.Endings.{next_by, total_word}
 use Rattle.task_run.specs.Machine.{after_next, end_phase}
 use Rattle.task_run.specs.kept.Serving.{assignment, begun, consumed, worked, rested, finish, finished_by, with_total, counted, concluded, IsLast, Finishing, Told, told, Serving}
 use Rattle.task_run.proofs.Accesses.{machine_at, Steps, Holding, put_step, holding_load, holding_put, serving_at}
-use Rattle.task_run.proofs.Words.{words-stamp, words-rested, words-next, words-finish, words-total, words-of_total}
+use Rattle.task_run.proofs.Words.{words-stamp, words-rested, words-next, words-finish, words-total, words-of_total, total_high}
 
 with_total-state : (ending : Ending) (n : ℕ) (y : Saved) → (with_total ending n y).state ≡ y.state
 with_total-state (endings.Next task) n y = refl

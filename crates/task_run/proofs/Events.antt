@@ -1,5 +1,5 @@
 -- The accesses that write the event's words, and the start of its task.
-use Rattle.std.proofs.Common.{◌≡◌, ℕ, false, List, [], refl, ap, ◌∙◌, sym, subst}
+use Rattle.std.proofs.Common.{◌≡◌, ℕ, false, List, [], refl, ap, ◌∙◌, sym, subst, arith}
 use Rattle.std.specs.Prelude.{None}
 use Rattle.fram_words.specs.Places.{Memory, store}
 use Rattle.fram_words.specs.Held.{origin_word}

@@ -1,9 +1,10 @@
 -- Writes and reads of the words of a thread's block.
-use Rattle.std.proofs.Common.{◌≡◌, ℕ, zero, suc, ◌+◌, ◌*◌, ◌-◌, ◌<◌, List, [], ◌∷◌, ◌++◌, length, get_or, set, arith, refl, ap, ◌∙◌, sym, inl, inr}
+use Rattle.std.proofs.Common.{◌≡◌, ℕ, zero, suc, ◌+◌, ◌*◌, ◌-◌, ◌<◌, ◌≤◌, List, [], ◌∷◌, ◌++◌, length, get_or, set, arith, refl, ap, ◌∙◌, sym, inl, inr}
 use Rattle.std.proofs.lemmas.Bool.{cases_eq, eq-eqb, ne_eqb}
 use Rattle.std.proofs.lemmas.List.{get_or-set_same, get_or-set_other, get_or-append-add, set-append_right}
 use Rattle.std.specs.Prelude.{Some}
 use Rattle.ink_base.specs.declared.output.Output.{Output}
+use Rattle.fram_words.specs.Header as header
 use Rattle.fram_words.specs.Held.{next_word}
 use Rattle.thread_state.specs.Pages.{put}
 use Rattle.never_cut.specs.Stands.{Saved, thread_words}
