@@ -7,8 +7,7 @@ use Rattle.fram_words.proofs.Addresses.{store_word}
 use Rattle.fram_words.specs.Words.{performed, address_of}
 use Rattle.fram_words.specs.declared.access.Access.TheVariants as fram
 use Rattle.fram_words.specs.Changes.{Becomes}
-use Rattle.fram_words.specs.Accesses.{Makes}
-use Rattle.fram_words.specs.Accesses.{at_address}
+use Rattle.fram_words.specs.Accesses.{Makes, at_address}
 
 pub stored : (m : Memory) (p : Place) (v : ℕ) → Becomes p v m (store m p v)
 stored m p v = record { here = store-same m p v; elsewhere = λ q other. store-other m p q v (λ e. other (sym e)) }

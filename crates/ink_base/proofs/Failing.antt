@@ -1,12 +1,9 @@
 -- How an error is handed on.
-use Rattle.std.proofs.Common.{◌≡◌, ℕ, Result, sym, ap, ◌∙◌}
+use Rattle.ink_base.proofs.Common.{◌≡◌, ℕ, Result, sym, ap, ◌∙◌, JobFault, JobAnswer, ◌>>◌, at_line, answer_at, Fails, Answers}
 use Rattle.ink_base.specs.declared.fault.Cause.{Cause}
-use Rattle.ink_base.specs.declared.fault.JobFault.{JobFault}
-use Rattle.ink_base.specs.declared.fault.JobAnswer.{JobAnswer}
 use Rattle.ink_base.specs.declared.fault.JobAnswer.TheVariants as answers
 use Rattle.ink_base.specs.declared.line_error.LineError.{LineError}
 use Rattle.ink_base.specs.declared.line_error.LineError.TheVariants as errors
-use Rattle.ink_base.specs.Gives.{◌>>◌, at_line, answer_at, Fails, Answers}
 
 -- an error of a line is an answer at its number
 pub Fails-at : {A : Type 0} (number : ℕ) (e : LineError) (read : Result A Cause) → Fails e read → Answers (answer_at number e) (at_line number read)

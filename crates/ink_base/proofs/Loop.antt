@@ -1,16 +1,10 @@
 -- The walk's loop: what it keeps.
-use Rattle.std.proofs.Common.{inl, inr, ◌≡◌, ℕ, ◌+◌, ◌-◌, ◌<◌, ◌≤◌, false, cond, eqb, List, [], ◌∷◌, ◌++◌, length, get_or, map, take, drop, slice_range, refl, sym, ap, subst, ◌∙◌, append_assoc, arith, Option, Some, None}
+use Rattle.ink_base.proofs.Common.{inl, inr, ◌≡◌, ℕ, ◌+◌, ◌-◌, ◌<◌, ◌≤◌, false, cond, eqb, List, [], ◌∷◌, ◌++◌, length, get_or, map, take, drop, slice_range, refl, sym, ap, subst, ◌∙◌, append_assoc, arith, Option, Some, None, cases_Bool, cases_lt, cond_both, le-leb, append-nil, map-append, take_more, take_all, take-append-drop, get_or-drop, get_or_append_left, get_or_push, length-append, length-map, length-take, length-drop, Token, is_blank, entry_of, all_entries, line_number, StandsBehind, ends_word, closed, place_after}
 use Rattle.std.specs.List.{slice_range}
 use Rattle.std.proofs.Math.Seq.{take-append_seam}
-use Rattle.std.proofs.lemmas.Bool.{cases_Bool, cases_lt, cond_both, le-leb}
-use Rattle.std.proofs.lemmas.List.{append-nil, map-append, take_more, take_all, take-append-drop, get_or-drop, get_or_append_left, get_or_push, length-append, length-map, length-take, length-drop}
 use Rattle.std.proofs.lemmas.List.Sums.{count_by_more_yes, count_by_more_no}
 use Rattle.ink_base.specs.declared.split.Place.{Place}
 use Rattle.ink_base.specs.declared.split.Place.TheVariants.{Between, Word, Comment}
-use Rattle.ink_base.specs.declared.token.Token.{Token}
-use Rattle.ink_base.specs.Lines.{is_blank}
-use Rattle.ink_base.specs.Tokens.{entry_of, all_entries, line_number, StandsBehind}
-use Rattle.ink_base.specs.Walk.{ends_word, closed, place_after}
 use Rattle.ink_base.proofs.Walk.{left, IsPlain, numbers, piece, line_ends, comment_ends, comment_goes_on, comment_begins, blank_comes, word_goes_on, text_ends, whole}
 
 -- the piece of the line that is held at a place

@@ -1,10 +1,6 @@
 -- The readings that legal entries settle are the next one and those after it.
-use Rattle.std.proofs.Common.{◌≡◌, ◌⊎◌, inl, inr, ℕ, suc, ◌+◌, ◌-◌, ◌≤◌, ◌==◌, cond, Bool, List, [], ◌∷◌, ◌++◌, refl, sym, ap, ◌∙◌, subst, arith}
+use Rattle.source_laws.proofs.Common.{◌≡◌, ◌⊎◌, inl, inr, ℕ, suc, ◌+◌, ◌-◌, ◌≤◌, ◌==◌, cond, Bool, List, [], ◌∷◌, ◌++◌, refl, sym, ap, ◌∙◌, subst, arith, cases_eq, eq-eqb, ne_eqb, Becomes, Source, Board, Model, Entry, Push, Refuse, Skip, Finish, Release, Follows}
 use Rattle.std.specs.List.{range_with_len}
-use Rattle.std.proofs.lemmas.Bool.{cases_eq, eq-eqb, ne_eqb}
-use Rattle.fram_words.specs.Changes.{Becomes}
-use Rattle.push_core.specs.Queue.{Source}
-use Rattle.source_laws.specs.Model.{Board, Model, Entry, Push, Refuse, Skip, Finish, Release, Follows}
 use Rattle.source_laws.specs.Journals.{Leads, settled, settled_by}
 
 -- an entry settles the next reading of source i, or none of it
