@@ -56,7 +56,7 @@ clock_step program readings words m thread time b h =
         scan = record { time = m.clock; looked = [] };
         scanned = refl;
         time_is = b.shared.clock;
-        passed = λ u within out. let def = b.accepted.threads u within in let small : priority_of program u < 256 = def.priority in absurd (omega arith);
+        passed = λ u within out. let def = b.accepted.threads u within in let small : priority_of program u ≤ 255 = def.priority in absurd (omega arith);
         rest = λ u within low. refl;
       });
     }

@@ -91,6 +91,7 @@ pub record HasDistinct (program : Program) : Type 0 where
   pub timers : AreDistinct (λ j. (timer_def program j).name) (length program.timers)
   pub tasks : AreDistinct (λ x. (task_def program x).name) (length program.tasks)
 
+-- a program that a board accepts
 pub record IsAccepted (program : Program) : Type 0 where
   pub counts : HasCounts program
   pub distinct : HasDistinct program

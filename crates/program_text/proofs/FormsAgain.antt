@@ -1,7 +1,8 @@
 -- The declarations of the canonical text are read as what was declared.
-use Rattle.std.proofs.Common.{◌≡◌, ℕ, ◌<◌, ◌^◌, true, false, List, [], ◌∷◌, ◌++◌, length, drop, get_or, Option, Some, None, Ok, codes, decimal, refl, sym, ap, arith}
+use Rattle.std.proofs.Common.{◌≡◌, ℕ, ◌<◌, ◌≤◌, true, false, List, [], ◌∷◌, ◌++◌, length, drop, get_or, Option, Some, None, Ok, codes, decimal, refl, sym, ap, arith}
 use Rattle.std.specs.Option.{ForSome, ForNone}
 use Rattle.std.proofs.lemmas.Bool.{lt-ltb, ne_eqb}
+use Rattle.ink_base.specs.declared.limits.TheConstants as limits
 use Rattle.ink_base.specs.Lines.{Word}
 use Rattle.ink_base.specs.declared.ids.ThreadId.{ThreadId}
 use Rattle.ink_base.specs.Checks.{word_in, end_in}
@@ -32,14 +33,14 @@ pub record CanThread (before : List ThreadDef) (t : ThreadDef) : Type 0 where
   pub alone : has_priority before t.priority ≡ false
   pub right : IsRightThread t
 
-priority_again : (threads : List ThreadDef) (n : ℕ) (ws : List Word) → n < 256 → has_priority threads n ≡ false → priority_in threads (codes "priority" ∷ decimal n ∷ ws) ≡ Ok (n, ws)
+priority_again : (threads : List ThreadDef) (n : ℕ) (ws : List Word) → n ≤ limits.PRIORITY → has_priority threads n ≡ false → priority_in threads (codes "priority" ∷ decimal n ∷ ws) ≡ Ok (n, ws)
 unfolding priority_in
 priority_again threads n ws high alone = rw (field_again (codes "priority") 0 255 n ws (omega arith) (omega arith) (omega arith), alone) refl
 
-expires_again : (e : Option ℕ) → ForSome e (λ d. d < 2 ^ 31) → expires_in (expires_words e) ≡ Ok e
+expires_again : (e : Option ℕ) → ForSome e (λ d. d ≤ limits.TICKS) → expires_in (expires_words e) ≡ Ok e
 unfolding expires_in end_in
 expires_again None h = refl
-expires_again (Some d) h = let lt : d < 2 ^ 31 = h d refl in rw (field_again (codes "expires") 0 2147483647 d [] (omega arith) (omega arith) (omega arith)) refl
+expires_again (Some d) h = let le : d ≤ limits.TICKS = h d refl in rw (field_again (codes "expires") 0 2147483647 d [] (omega arith) (omega arith) (omega arith)) refl
 
 -- a thread
 pub thread_again : (d : Draft) (n : ℕ) (t : ThreadDef) → CanThread d.threads t
@@ -90,11 +91,11 @@ pipe_again program d p same apart new right =
       reader_again program p.writer.0 p.reader.0 apart right.reader right.other,
     ) refl
 
-start_again : (due : Option ℕ) (period : ℕ) → ForSome due (λ tick. tick < 2 ^ 31) → period < 2 ^ 31 → ForNone due (period ≡ 0) → start_in (start_words due period) ≡ Ok (due, period)
+start_again : (due : Option ℕ) (period : ℕ) → ForSome due (λ tick. tick ≤ limits.TICKS) → period ≤ limits.TICKS → ForNone due (period ≡ 0) → start_in (start_words due period) ≡ Ok (due, period)
 unfolding start_in word_in off_in due_in end_in
 start_again None period within lt off = let none : period ≡ 0 = off refl in ap (λ (n : ℕ). Ok (None, n)) (sym none)
 start_again (Some due) period within lt off =
-    let small : due < 2 ^ 31 = within due refl in
+    let small : due ≤ limits.TICKS = within due refl in
     rw (field_again (codes "due") 0 2147483647 due _ (omega arith) (omega arith) (omega arith), field_again (codes "period") 0 2147483647 period [] (omega arith) (omega arith) (omega arith)) refl
 
 -- a timer

@@ -4,6 +4,7 @@ use Rattle.std.specs.Option.{ForSome}
 use Rattle.std.specs.List.{list_all, flat_map, AllByRecursion}
 use Rattle.std.proofs.lemmas.Bool.{and_from, and_parts}
 use Rattle.std.proofs.lemmas.List.Folds.{list_all-append}
+use Rattle.ink_base.specs.declared.limits.TheConstants as limits
 use Rattle.ink_base.specs.Lines.{Word}
 use Rattle.ink_base.specs.declared.ids.ThreadId.{ThreadId}
 use Rattle.task_isa.specs.Code.{FitsWord, IsInstr}
@@ -53,9 +54,9 @@ line_from (b ∷ w) ws h all =
     let first = and_parts (is_word (b ∷ w)) true parts.0 in
     and_from (are_words ((b ∷ w) ∷ ws)) (no_header ((b ∷ w) ∷ ws)) (and_from (is_word (b ∷ w)) (list_all is_word ws) first.0 (all_words ws all)) parts.1
 
-expires_worded : (e : Option ℕ) → ForSome e (λ d. d < 2 ^ 31) → ArePrinted (expires_words e)
+expires_worded : (e : Option ℕ) → ForSome e (λ d. d ≤ limits.TICKS) → ArePrinted (expires_words e)
 expires_worded None h = tt
-expires_worded (Some d) h = let lt : d < 2 ^ 31 = h d refl in (refl also decimal_word d (omega arith) also tt)
+expires_worded (Some d) h = let le : d ≤ limits.TICKS = h d refl in (refl also decimal_word d (omega arith) also tt)
 
 pub thread_worded : (t : ThreadDef) → IsNamed t.name → IsRightThread t → is_line (thread_words t) ≡ true
 thread_worded t named right =
@@ -74,9 +75,9 @@ pipe_worded program p named own right =
     line_from (codes "pipe") (drop 1 (pipe_words program p)) refl
     (name_word p.name own also decimal_word p.places (omega (arith, right.places)) also refl also thread_name_worded program p.writer.0 named right.writer also refl also thread_name_worded program p.reader.0 named right.reader also tt)
 
-start_worded : (due : Option ℕ) (period : ℕ) → ForSome due (λ d. d < 2 ^ 31) → period < 2 ^ 31 → ArePrinted (start_words due period)
+start_worded : (due : Option ℕ) (period : ℕ) → ForSome due (λ d. d ≤ limits.TICKS) → period ≤ limits.TICKS → ArePrinted (start_words due period)
 start_worded None period h lt = (refl also tt)
-start_worded (Some due) period h lt = let small : due < 2 ^ 31 = h due refl in (refl also decimal_word due (omega arith) also refl also decimal_word period (omega arith) also tt)
+start_worded (Some due) period h lt = let small : due ≤ limits.TICKS = h due refl in (refl also decimal_word due (omega arith) also refl also decimal_word period (omega arith) also tt)
 
 pub timer_worded : (program : Program) (t : TimerDef) → AreNamed program → IsNamed t.name → IsRightTimer program t → is_line (timer_words program t) ≡ true
 timer_worded program t named own right =

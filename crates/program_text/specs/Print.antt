@@ -11,9 +11,11 @@ use Rattle.task_isa.specs.declared.program.TimerDef.{TimerDef}
 use Rattle.task_isa.specs.declared.program.Task.{Task}
 use Rattle.task_isa.specs.declared.program.Program.{Program}
 
+-- the name of a thread by its number
 abbrev pub thread_name : Program → ThreadId → List ℕ
 thread_name program t = (thread_def program t.0).name
 
+-- expires D, where it is there
 abbrev pub expires_text : Option ℕ → List ℕ
 expires_text None = []
 expires_text (Some ticks) = codes " expires " ++ decimal ticks
@@ -51,15 +53,19 @@ timer_text program t = codes "timer " ++ t.name ++ codes " thread " ++ thread_na
 abbrev pub register_text : ℕ → List ℕ
 register_text r = codes " r" ++ decimal r
 
+-- a number into a register
 abbrev pub li_text : ℕ → ℕ → List ℕ
 li_text a i = codes "li" ++ register_text a ++ codes " " ++ decimal i
 
+-- a word and one register
 abbrev pub one_text : List ℕ → ℕ → List ℕ
 one_text word a = word ++ register_text a
 
+-- a word and two registers
 abbrev pub two_text : List ℕ → ℕ → ℕ → List ℕ
 two_text word a b = word ++ register_text a ++ register_text b
 
+-- a word and three registers
 abbrev pub three_text : List ℕ → ℕ → ℕ → ℕ → List ℕ
 three_text word a b c = word ++ register_text a ++ register_text b ++ register_text c
 

@@ -16,6 +16,7 @@ abbrev pub put : Word × Label → List (Word × Label) → List (Word × Label)
 put e [] = e ∷ []
 put e (f ∷ es) = if nat_lt e.1.place f.1.place then e ∷ f ∷ es else f ∷ put e es
 
+-- the labels in the order of their places
 abbrev pub by_place : List (Word × Label) → List (Word × Label)
 by_place [] = []
 by_place (e ∷ es) = put e (by_place es)
@@ -24,6 +25,7 @@ by_place (e ∷ es) = put e (by_place es)
 abbrev pub listed : List (Word × Label) → List (Word × ℕ)
 listed es = map (λ e. (e.0, e.1.offset)) (by_place es)
 
+-- each place is below a number
 abbrev pub ArePlaced : ℕ → List (Word × Label) → Type 0
 ArePlaced n [] = Unit {0}
 ArePlaced n (e ∷ es) = (e.1.place < n) × ArePlaced n es

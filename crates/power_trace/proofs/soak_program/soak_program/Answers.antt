@@ -5,4 +5,4 @@ use Rattle.power_trace.proofs.soak_program.soak_program.Goals as goal
 pub unreachable-requires : goal.unreachable-requires
 unreachable-requires c =
     let ok = soak_verdict c.in_ok-program.program c.no_lines.result c.in_ok-program.ensures in
-    cc (ok, c.check.ensures, c.in-Err.is)
+    cc (ok, c.check.ensures.verdict, c.in-Err.is)
