@@ -1,5 +1,5 @@
 -- Tokens: the words of a text, each with the number of its line.
-use Rattle.std.specs.Prelude.{◌≡◌, ℕ, ◌+◌, not, List, [], map, length, take, count_by, Option, Some, None, Result, Ok, Err, ◌&&◌, ◌==◌, nat_le, slice_range, if◌then◌else◌, position}
+use Rattle.std.specs.Prelude.{◌≡◌, ℕ, ◌+◌, ◌<◌, not, List, [], map, length, take, count_by, Option, Some, None, Result, Ok, Err, ◌&&◌, ◌==◌, nat_le, slice_range, slice_index_or, if◌then◌else◌, position}
 use Rattle.std.specs.List.{flat_map}
 use Rattle.ink_base.specs.declared.token.Token.{Token}
 use Rattle.ink_base.specs.declared.token.Tokens.{Tokens}
@@ -25,12 +25,23 @@ all_entries text = flat_map entries (lines_of text)
 abbrev pub word_of : List ℕ → Token → Word
 word_of text t = if nat_le t.start t.stop && nat_le t.stop (length text) then slice_range text t.start t.stop else []
 
+-- what a token gives: its word and its line
 abbrev pub entry_of : List ℕ → Token → Entry
 entry_of text t = (t.line, word_of text t)
 
--- these tokens are the text's words, and this is the number of its lines
+-- the number of the line in which a byte stands
+abbrev pub line_number : List ℕ → ℕ → ℕ
+line_number text offset = 1 + count_by (λ b. b == 10) (take offset text)
+
+-- a token behind so many others: their words are those of the text before its start, and its line is 1 plus the line feeds there
+pub record StandsBehind (text : List ℕ) (count : ℕ) (t : Token) : Type 0 where
+  pub words : all_entries (take t.start text) ≡ take count (all_entries text)
+  pub line : t.line ≡ line_number text t.start
+
+-- these tokens are the text's words, each where it stands, and this is the number of its lines
 pub record AreTokens (text : List ℕ) (tokens : List Token) (count : ℕ) : Type 0 where
   pub words : map (entry_of text) tokens ≡ all_entries text
+  pub places : (n : ℕ) (d : Token) → n < length tokens → StandsBehind text n (slice_index_or tokens n d)
   pub lines : count ≡ length (lines text)
 
 -- the place of the first byte that isn't allowed
@@ -42,10 +53,6 @@ abbrev pub IsSplit : List ℕ → Result Tokens TextAnswer → Type 0
 IsSplit text (Ok tokens) = (first_bad text ≡ None) × AreTokens text tokens.list.items tokens.lines
 IsSplit text (Err answers.NoMemory) = Unit {0}
 IsSplit text (Err (answers.NotAscii offset)) = first_bad text ≡ Some offset
-
--- the number of the line in which a byte stands
-abbrev pub line_number : List ℕ → ℕ → ℕ
-line_number text offset = 1 + count_by (λ b. b == 10) (take offset text)
 
 -- a byte that isn't allowed is a fault of its line
 abbrev pub byte_fault : List ℕ → Option ℕ → Result (Unit {0}) JobFault

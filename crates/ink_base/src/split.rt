@@ -1,8 +1,8 @@
 //! Splits a text into tokens.
 
-ghost use Rattle.std.specs.Prelude.{◌≡◌, ◌≤◌, length, map, IfOk};
+ghost use Rattle.std.specs.Prelude.{◌≡◌, ◌<◌, ◌≤◌, ℕ, length, map, slice_index_or, IfOk};
 ghost use Rattle.ink_base.specs.Lines.{is_allowed, is_blank, lines};
-ghost use Rattle.ink_base.specs.Tokens.{IsSplit, all_entries, entry_of, first_bad};
+ghost use Rattle.ink_base.specs.Tokens.{IsSplit, StandsBehind, all_entries, entry_of, first_bad};
 ghost use Rattle.ink_base.specs.Walk.{closed, ends_word, place_after};
 
 use crate::limits::TEXT_BYTES;
@@ -82,7 +82,8 @@ fn place_after(place: Place, byte: u8, at: u32) -> Place
 
 fn words(alloc: Global, text: &[u8]) -> Result<Vec<Token>, AllocError>
     requires { length text.now ≤ TEXT_BYTES }
-    ensures { IfOk result (λ tokens. map (entry_of text.now) tokens.items ≡ all_entries text.now) }
+    ensures words { IfOk result (λ tokens. map (entry_of text.now) tokens.items ≡ all_entries text.now) }
+    ensures places { IfOk result (λ tokens. (n : ℕ) (d : Token) → n < length tokens.items → StandsBehind text.now n (slice_index_or tokens.items n d)) }
 {
     let mut tokens = Vec::new(alloc);
     let mut line = 1;
@@ -109,7 +110,7 @@ fn words(alloc: Global, text: &[u8]) -> Result<Vec<Token>, AllocError>
     Ok(tokens)
 }
 
-/// The words of a text of at most 4,194,304 bytes in order, each as a piece of the text, and the number of its lines.
+/// The words of a text of at most 4,194,304 bytes in order, each as the piece of the text where it stands, and the number of its lines.
 /// `NotAscii` exactly at the first byte that isn't printable, a tab, a carriage return or a line feed.
 pub fn split_tokens(alloc: Global, text: &[u8]) -> Result<Tokens, TextAnswer>
     requires { length text.now ≤ TEXT_BYTES }

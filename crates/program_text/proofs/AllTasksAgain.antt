@@ -11,7 +11,7 @@ use Rattle.task_lines.specs.declared.draft.DraftTask.{DraftTask}
 use Rattle.task_lines.specs.declared.draft.Draft.{Draft}
 use Rattle.task_lines.specs.Named.{is_taken, place_of}
 use Rattle.task_lines.specs.Outside.{task_name, outside_line}
-use Rattle.task_asm.specs.Task.{end_line, inside_line, line_in}
+use Rattle.task_lines.specs.Task.{end_line, inside_line, line_in}
 use Rattle.program_text.proofs.Spelled.{lines_below, task_words, task_lines}
 use Rattle.program_text.proofs.LineByLine.{read_all, read_append, read_one, read_more, AllBehind, read_each}
 use Rattle.program_text.proofs.TasksAgain.{open_at, task_below, CanTask, code_again, header_again}

@@ -27,7 +27,7 @@ use Rattle.task_lines.specs.declared.op.DeviceOp.TheVariants as devices
 use Rattle.task_lines.specs.Devices.{pipe_name, timer_name, own_pipe_in, own_timer_in}
 use Rattle.task_lines.specs.Ops.{op_of, one_instr, two_instr, three_instr}
 use Rattle.task_lines.specs.Operands.{one_in, two_in, three_in, constant_in, target_in, register_target_in, jump_in, device_in, instr_in}
-use Rattle.task_asm.specs.Task.{label_of, instr_line, inside_line, line_in}
+use Rattle.task_lines.specs.Task.{label_of, instr_line, inside_line, line_in}
 use Rattle.program_text.proofs.Spelled.{register_word, label_name}
 use Rattle.program_text.proofs.WordsAgain.{number_again, register_in_again, label_is_name}
 use Rattle.program_text.proofs.NamesAgain.{declared_again}

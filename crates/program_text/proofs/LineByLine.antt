@@ -7,11 +7,11 @@ use Rattle.std.proofs.lemmas.List.Elements.{All-from_get_or, recursion_from_All}
 use Rattle.ink_base.specs.Lines.{Word, Line}
 use Rattle.ink_base.specs.declared.fault.Cause.{Cause}
 use Rattle.ink_base.specs.Gives.{◌>>=◌, ◌>>◌, at_line}
+use Rattle.ink_text.specs.Section.{is_header, lines_in}
+use Rattle.ink_text.proofs.Lines.{at_other}
 use Rattle.task_lines.specs.declared.draft.Draft.{Draft}
-use Rattle.task_asm.specs.Task.{line_in}
-use Rattle.task_asm.specs.Section.{is_header, section_in}
+use Rattle.task_lines.specs.Task.{line_in}
 use Rattle.program_text.proofs.Rendering.{with_numbers}
-use Rattle.task_asm.proofs.SectionSteps.{at_other}
 
 -- the draft behind lines that are numbered from n on
 unfoldable pub read_all : Draft → ℕ → List (List Word) → Result Draft Cause
@@ -67,17 +67,17 @@ pub ok_parts : {A B : Type 0} (r : Result A Cause) (k : A → Result B Cause) (y
 ok_parts (Ok x) k y h = (x, refl, h)
 ok_parts (Err e) k y h = absurd (cc)
 
--- a section goes on behind lines that are read
-pub section_behind : (count : ℕ) (d e : Draft) (n : ℕ) (lss : List (List Word)) (rest : List Line) → list_all no_header lss ≡ true → read_all d n lss ≡ Ok e
-    → section_in count d (with_numbers n lss ++ rest) ≡ section_in count e rest
+-- the reading goes on behind lines that are read
+pub read_behind : (d e : Draft) (n : ℕ) (lss : List (List Word)) (rest : List Line) → list_all no_header lss ≡ true → read_all d n lss ≡ Ok e
+    → lines_in line_in d (with_numbers n lss ++ rest) ≡ lines_in line_in e rest
 unfolding read_all
-section_behind count d e n [] rest h r = let same : d ≡ e = cc in ap (λ x. section_in count x rest) same
-section_behind count d e n (ws ∷ lss) rest h r =
+read_behind d e n [] rest h r = let same : d ≡ e = cc in ap (λ x. lines_in line_in x rest) same
+read_behind d e n (ws ∷ lss) rest h r =
     let both = and_parts (no_header ws) (list_all no_header lss) h in
     let parts = ok_parts (line_in d n ws) (λ f. read_all f (n + 1) lss) e r in
-    at_other count d (record { number = n; words = ws }) (with_numbers (n + 1) lss ++ rest) (not-true (is_header ws) both.0)
-    ∙ ap (λ (x : Result Draft Cause). at_line n x >> (λ next. section_in count next (with_numbers (n + 1) lss ++ rest))) parts.1
-    ∙ section_behind count parts.0 e (n + 1) lss rest both.1 parts.2
+    at_other line_in d (record { number = n; words = ws }) (with_numbers (n + 1) lss ++ rest) (not-true (is_header ws) both.0)
+    ∙ ap (λ (x : Result Draft Cause). at_line n x >> (λ next. lines_in line_in next (with_numbers (n + 1) lss ++ rest))) parts.1
+    ∙ read_behind parts.0 e (n + 1) lss rest both.1 parts.2
 
 behind_from : {X : Type 0} (P : List X → X → Type 0) (before xs : List X) (d : X) → ((i : ℕ) → i < length xs → P (before ++ take i xs) (get_or xs i d)) → AllBehind P before xs
 behind_from P before [] d h = tt

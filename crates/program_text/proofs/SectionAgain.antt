@@ -17,7 +17,7 @@ use Rattle.task_lines.specs.Devices.{pipe_name, timer_name}
 use Rattle.task_lines.specs.Outside.{outside_line}
 use Rattle.task_asm.specs.Section.{empty_draft}
 use Rattle.task_asm.specs.Targets.{program_of}
-use Rattle.task_asm.specs.Task.{line_in}
+use Rattle.task_lines.specs.Task.{line_in}
 use Rattle.program_text.proofs.Spelled.{chain, thread_words, source_words, pipe_words, timer_words, thread_lines, source_lines, pipe_lines, timer_lines, task_lines, kinds}
 use Rattle.program_text.proofs.LineByLine.{read_all, read_append, read_one, AllBehind, read_each}
 use Rattle.program_text.proofs.FormsAgain.{IsNew, CanThread, AreApart, thread_again, source_again, pipe_again, timer_again}

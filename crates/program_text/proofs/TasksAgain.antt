@@ -15,7 +15,7 @@ use Rattle.task_lines.specs.Forms.{thread_name}
 use Rattle.task_lines.specs.Labels.{offset_of, with_label}
 use Rattle.task_lines.specs.Outside.{task_name, task_line}
 use Rattle.program_text.specs.Print.{is_target}
-use Rattle.task_asm.specs.Task.{label_line, inside_line, line_in}
+use Rattle.task_lines.specs.Task.{label_line, inside_line, line_in}
 use Rattle.program_text.proofs.Spelled.{label_name, label_lines, instr_words, instr_lines, lines_below, task_words}
 use Rattle.program_text.proofs.WordsAgain.{fixed_again, field_again, label_is_name, label_of-again}
 use Rattle.program_text.proofs.LineByLine.{read_all, read_append, read_one}

@@ -5,24 +5,25 @@ use Rattle.ink_base.specs.Lines.{Line}
 use Rattle.ink_base.specs.declared.fault.JobFault.{JobFault}
 use Rattle.ink_base.specs.Gives.{◌>>◌}
 use Rattle.ink_base.specs.Checks.{end_in}
+use Rattle.ink_text.specs.Section.{header_in, header_end, next_header, lines_in, section_in}
+use Rattle.ink_text.proofs.Lines.{at_header}
 use Rattle.task_isa.specs.declared.lines.Lines.{Lines}
 use Rattle.task_isa.specs.declared.program.Program.{Program}
 use Rattle.task_lines.specs.declared.draft.Draft.{Draft}
-use Rattle.task_asm.specs.Section.{empty_draft, header_in, section_in, lines_of_draft, first_header_in, program_in}
+use Rattle.task_lines.specs.Task.{line_in}
+use Rattle.task_asm.specs.Section.{empty_draft, lines_of_draft, draft_end, program_in}
 use Rattle.task_asm.specs.Targets.{program_of}
 use Rattle.program_text.proofs.Rendering.{with_numbers}
 use Rattle.program_text.proofs.Spelled.{chain, kinds, program_lines}
-use Rattle.program_text.proofs.LineByLine.{no_header, section_behind}
-use Rattle.task_asm.proofs.SectionSteps.{at_header}
+use Rattle.program_text.proofs.LineByLine.{no_header, read_behind}
 use Rattle.program_text.proofs.SectionAgain.{CanRead, draft_of_program, kinds_again, program_again}
 
--- the section, whatever follows the header behind it
-section_again : (count n : ℕ) (program : Program) (rest : List Line) → CanRead program → list_all no_header (chain (kinds program) []) ≡ true
-    → section_in count empty_draft (with_numbers 2 (chain (kinds program) []) ++ record { number = n; words = codes "[sensors]" ∷ [] } ∷ rest) ≡ Ok (draft_of_program program, record { number = n; words = codes "[sensors]" ∷ [] } ∷ rest)
-unfolding header_in
-section_again count n program rest can plain =
-    section_behind count empty_draft (draft_of_program program) 2 (chain (kinds program) []) (record { number = n; words = codes "[sensors]" ∷ [] } ∷ rest) plain (kinds_again program can)
-    ∙ at_header count (draft_of_program program) (record { number = n; words = codes "[sensors]" ∷ [] }) rest refl
+-- the lines of the section, whatever follows the header behind it
+section_again : (n : ℕ) (program : Program) (rest : List Line) → CanRead program → list_all no_header (chain (kinds program) []) ≡ true
+    → lines_in line_in empty_draft (with_numbers 2 (chain (kinds program) []) ++ record { number = n; words = codes "[sensors]" ∷ [] } ∷ rest) ≡ Ok (draft_of_program program, record { number = n; words = codes "[sensors]" ∷ [] } ∷ rest)
+section_again n program rest can plain =
+    read_behind empty_draft (draft_of_program program) 2 (chain (kinds program) []) (record { number = n; words = codes "[sensors]" ∷ [] } ∷ rest) plain (kinds_again program can)
+    ∙ at_header line_in (draft_of_program program) (record { number = n; words = codes "[sensors]" ∷ [] }) rest refl
 
 -- the lines of the parts
 unfoldable pub parts_of : Program → Lines
@@ -30,8 +31,8 @@ parts_of program = lines_of_draft 1 (draft_of_program program)
 
 pub whole_again : (count n : ℕ) (program : Program) (rest : List Line) → CanRead program → list_all no_header (chain (kinds program) []) ≡ true
     → program_in count (with_numbers 1 (program_lines program) ++ record { number = n; words = codes "[sensors]" ∷ [] } ∷ rest) ≡ Ok (program, parts_of program, record { number = n; words = codes "[sensors]" ∷ [] } ∷ rest)
-unfolding program_in first_header_in end_in parts_of
+unfolding program_in next_header header_in section_in header_end end_in draft_end parts_of
 whole_again count n program rest can plain =
     let behind : List Line = record { number = n; words = codes "[sensors]" ∷ [] } ∷ rest in
-    ap (λ (r : Result (Draft × List Line) JobFault). r >> (λ x. program_of x.0 >> (λ found. Ok (found, lines_of_draft 1 x.0, x.1)))) (section_again count n program rest can plain)
+    ap (λ (r : Result (Draft × List Line) JobFault). r >> (λ x. draft_end count x.0 x.1 >> (λ closed. program_of x.0 >> (λ found. Ok (found, lines_of_draft 1 x.0, x.1))))) (section_again n program rest can plain)
     ∙ ap (λ (r : Result Program JobFault). r >> (λ found. Ok (found, lines_of_draft 1 (draft_of_program program), behind))) (program_again program can)

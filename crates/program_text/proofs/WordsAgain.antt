@@ -12,7 +12,7 @@ use Rattle.ink_base.specs.Numbers.{is_digit, is_number, value}
 use Rattle.ink_base.specs.Checks.{word_in, fixed_in, number_in, field_in}
 use Rattle.task_isa.specs.Names.{is_letter, goes_on_name, is_name}
 use Rattle.task_lines.specs.Operands.{register_of, register_in}
-use Rattle.task_asm.specs.Task.{label_of}
+use Rattle.task_lines.specs.Task.{label_of}
 use Rattle.program_text.proofs.Rendering.{goes_on, is_word}
 use Rattle.program_text.proofs.Spelled.{register_word, label_name}
 

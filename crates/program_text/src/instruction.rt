@@ -5,8 +5,8 @@ ghost use Rattle.prog_check.specs.Lookup.{pipe_def, timer_def, task_def};
 ghost use Rattle.task_isa.specs.Code.{IsInstr};
 ghost use Rattle.program_text.specs.Print.{register_text, li_text, one_text, two_text, three_text, jump_text, device_text, instr_text};
 
-use crate::numbers::{put_count, put_name};
 use ink_base::NoMemory;
+use ink_text::{put_count, put_name};
 use task_isa::{Instr, Program, Reg};
 
 fn pipe_name(program: &Program, i: u32) -> &[u8]

@@ -3,7 +3,6 @@
 
 mod instruction;
 mod marks;
-mod numbers;
 mod parts;
 mod program;
 

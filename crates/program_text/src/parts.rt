@@ -5,8 +5,8 @@ ghost use Rattle.std.specs.List.{All};
 ghost use Rattle.program_text.specs.Print.{thread_name, expires_text, sizes_text, thread_text, source_text, ends_text, pipe_text, start_text, timer_text};
 ghost use Rattle.program_text.specs.Typed.{IsNamed};
 
-use crate::numbers::{put_count, put_name};
 use ink_base::{NoMemory, ThreadId};
+use ink_text::{put_count, put_name};
 use task_isa::{PipeDef, Program, ThreadDef, TimerDef};
 
 /// The name of a thread, or nothing where there is none.

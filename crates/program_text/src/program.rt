@@ -11,9 +11,9 @@ ghost use Rattle.program_text.specs.Typed.{IsNamed, IsTypedTask, IsTyped};
 
 use crate::instruction::put_instr;
 use crate::marks::label_marks;
-use crate::numbers::{put_count, put_name};
 use crate::parts::{put_pipes, put_sources, put_threads, put_timers, thread_name};
 use ink_base::NoMemory;
+use ink_text::{put_count, put_name};
 use prog_check::Accepted;
 use std::alloc::Global;
 use task_isa::{Program, Task};

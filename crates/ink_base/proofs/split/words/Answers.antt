@@ -1,7 +1,7 @@
 use Rattle.std.proofs.Common.{◌≡◌, ◌++◌, length, get_or, refl, sym, arith}
 use Rattle.std.proofs.lemmas.Bool.{eq-eqb, ne_eqb}
 use Rattle.std.proofs.lemmas.List.{append-nil}
-use Rattle.ink_base.proofs.Loop.{starts, steps, ends, closing, number_after}
+use Rattle.ink_base.proofs.Loop.{starts, steps, ends, ends_stand, closing, number_after}
 use Rattle.ink_base.proofs.split.words.Goals as goal
 use Rattle.ink_base.proofs.split.words.Goals.{in-Some+in_ok-push, in_default, then-b-eq10, else-b-eq10, in-Some-closed+in_ok-push-2, in_default-closed}
 
@@ -31,4 +31,7 @@ returns c =
       | in_default-closed w ↦ rw (w.in_default-closed.is, w.tokens-is) (sym (append-nil c.loop-i.tokens.items))
     ] in
     let i : c.loop-i.i ≡ length c.args.text.now = omega arith in
-    rw (t, c.closed-2.ensures, ← i) (ends c.args.text.now c.loop-i.tokens.items c.loop-i.place c.loop-i.line c.loop-i.i i c.loop-i.invariant)
+    rw (t, c.closed-2.ensures, ← i) (record {
+      words = ends c.args.text.now c.loop-i.tokens.items c.loop-i.place c.loop-i.line c.loop-i.i i c.loop-i.invariant;
+      places = ends_stand c.args.text.now c.loop-i.tokens.items c.loop-i.place c.loop-i.line c.loop-i.i c.loop-i.invariant;
+    })

@@ -18,8 +18,8 @@ same_program text tokens all count are same =
 pub program-requires : goal.program-requires
 program-requires c = omega (arith, c.requires.short, count_le c.args.text.now c.args.tokens.now.list.items c.args.tokens.now.lines c.requires.tokens)
 
-pub index_of-requires-few : goal.index_of-requires-few
-index_of-requires-few c = omega (arith, c.requires.short, tokens_le c.args.text.now c.args.tokens.now.list.items c.args.tokens.now.lines c.requires.tokens)
+pub index_of-requires-clause-few : goal.index_of-requires-clause-few
+index_of-requires-clause-few c = omega (arith, c.requires.short, tokens_le c.args.text.now c.args.tokens.now.list.items c.args.tokens.now.lines c.requires.tokens)
 
 pub returns-in-Ok-clause-given : goal.returns-in-Ok-clause-given
 returns-in-Ok-clause-given c =
