@@ -135,19 +135,19 @@ charge_keeps sources c number ws next are h =
     charge_more sources number off.0.0 c turns.0 next are (ltb-true _ _ roomy.0) (number_le limits.TICKS first.0 off.0 off.1) board same
 
 -- charges within the limits, each with a line
-pub record AreListed (sources : ℕ) (c : Charges) : Type 0 where
+pub record KeepsCharges (sources : ℕ) (c : Charges) : Type 0 where
   pub charges : AreCharges sources c.list
   pub lines : length c.lines ≡ length c.list
 
-listed : (sources : ℕ) (c next : Charges) → AreCharged sources c → 0 < length c.list → c ≡ next → AreListed sources next
-listed sources c next are some same =
+some_kept : (sources : ℕ) (c next : Charges) → AreCharged sources c → 0 < length c.list → c ≡ next → KeepsCharges sources next
+some_kept sources c next are some same =
     let right : AreCharges sources c.list = record {
       least = omega (arith, some);
       count = are.count;
       right = are.right;
       turns = omega (arith, are.sum, are.within);
     } in
-    subst (AreListed sources) same (record { charges = right; lines = are.lines })
+    subst (KeepsCharges sources) same (record { charges = right; lines = are.lines })
 
 tail_keeps : (tails : Tails) (charges : ℕ) (ws : List Word) (x : Unit {0}) → tail_header tails charges ws ≡ Ok x → 0 < charges
 unfolding tail_header
@@ -171,7 +171,7 @@ end_keeps count tails charges [] x h =
 end_keeps count tails charges (line ∷ ls) x h = tail_keeps tails charges line.words x (in_line line.number (tail_header tails charges line.words) x h)
 
 -- the section's charges are within the limits, and each has its line
-pub power_keep : (count : ℕ) (tails : Tails) (sources : ℕ) (ls : List Line) (x : Charges × List Line) → power_in count tails sources ls ≡ Ok x → AreListed sources x.0
+pub power_keep : (count : ℕ) (tails : Tails) (sources : ℕ) (ls : List Line) (x : Charges × List Line) → power_in count tails sources ls ≡ Ok x → KeepsCharges sources x.0
 unfolding power_in
 power_keep count tails sources ls x h =
     let close : Charges × List Line → Result (Charges × List Line) JobFault = λ y. power_end count tails (length y.0.list) y.1 >> (λ e. Ok y) in
@@ -180,4 +180,4 @@ power_keep count tails sources ls x h =
     let same : read.0 ≡ x = cc in
     let none : AreCharged sources (no_charges sources) = record { sources = refl; lines = refl; count = omega arith; right = λ k d lt. absurd (omega arith); sum = refl; within = omega arith } in
     let kept = section_keeps (AreCharged sources) charge_line (charge_keeps sources) count ls (no_charges sources) read.0 none read.1 in
-    listed sources read.0.0 x.0 kept (end_keeps count tails (length read.0.0.list) read.0.1 closed.0 closed.1) (ap (λ (y : Charges × List Line). y.0) same)
+    some_kept sources read.0.0 x.0 kept (end_keeps count tails (length read.0.0.list) read.0.1 closed.0 closed.1) (ap (λ (y : Charges × List Line). y.0) same)
