@@ -41,6 +41,7 @@ use Rattle.kernel_core.specs.Kernel.{wants}
 use Rattle.kernel_core.specs.declared.kernel.Kernel.{Kernel}
 use Rattle.kernel_core.specs.declared.kernel.Kernel.TheVariants as kernels
 use Rattle.task_run.proofs.Ranges.{every_task_fits}
+use Rattle.task_run.proofs.Words.{total_high}
 
 -- a word of a page of a thread
 in_block : (program : Program) (t mask w : ℕ) → t < length program.threads → w < 8 * pages_of (thread_def program t) → IsOnBoard program (place_in t mask w)
@@ -163,22 +164,9 @@ task_on s words m r (phase.WriteStopped timer) is g known f h =
 task_on s words m r phase.WriteNext is g known f h = put_on s.program words r.pick.thread.0 r.buffer 1 (next_by r.ending) known (omega arith) (ready_at s.program words m r phase.WriteNext is h)
 task_on s words m r phase.WriteFinished is g known f h =
     put_on s.program words r.pick.thread.0 r.buffer 5 (r.pick.position + 1) known (omega arith) (ready_at s.program words m r phase.WriteFinished is h)
-task_on s words m r phase.ReadTotal is g known f h = total_on (total_word r.ending) (total_small r.ending)
-  where
-    total_small : (e : Rattle.task_run.specs.declared.ending.Ending.Ending) → total_word e < 48
-    total_small Rattle.task_run.specs.declared.ending.Ending.TheVariants.Trapped = omega arith
-    total_small Rattle.task_run.specs.declared.ending.Ending.TheVariants.Expired = omega arith
-    total_small _ = omega arith
-
-    total_on : (w : ℕ) → w < 48 → IsOnBoard s.program (place_in r.pick.thread.0 (working_mask r.buffer) w)
-    total_on w lt = in_block s.program r.pick.thread.0 (working_mask r.buffer) w known (omega arith)
+task_on s words m r phase.ReadTotal is g known f h = let high = total_high r.ending in in_block s.program r.pick.thread.0 (working_mask r.buffer) (total_word r.ending) known (omega arith)
 task_on s words m r (phase.WriteTotal n) is g known f h =
-    put_on s.program words r.pick.thread.0 r.buffer (total_word r.ending) n known (let lt = total_small r.ending in omega arith) (ready_at s.program words m r (phase.WriteTotal n) is h)
-  where
-    total_small : (e : Rattle.task_run.specs.declared.ending.Ending.Ending) → total_word e < 48
-    total_small Rattle.task_run.specs.declared.ending.Ending.TheVariants.Trapped = omega arith
-    total_small Rattle.task_run.specs.declared.ending.Ending.TheVariants.Expired = omega arith
-    total_small _ = omega arith
+    put_on s.program words r.pick.thread.0 r.buffer (total_word r.ending) n known (let high = total_high r.ending in omega arith) (ready_at s.program words m r (phase.WriteTotal n) is h)
 task_on s words m r phase.WriteStamp is g known f h = put_on s.program words r.pick.thread.0 r.buffer 0 (r.stamp + 1) known (omega arith) (ready_at s.program words m r phase.WriteStamp is h)
 task_on s words m r phase.StoreCommit is g known f h = known
 task_on s words m r (phase.StoreAck source count) is g known f h = f

@@ -35,4 +35,5 @@ module _ (job : JobParts) (l : Layout) (b : Board) (room : ℕ) (ps : List Pushe
       record {
         legal = subst (λ (es : List Entry). IsLegal job.program job.readings (open_model job.program) es) same board.legal;
         stands = subst (λ (es : List Entry). Stands (memory (setup_of job) b) job.program (after job.program job.readings (open_model job.program) es)) same board.stands;
+        image = board.image;
       }

@@ -8,6 +8,7 @@ use Rattle.never_cut.specs.declared.model.Model.{Model}
 use Rattle.never_cut.specs.State.{open_model}
 use Rattle.never_cut.specs.Journal.{after, IsLegal}
 use Rattle.never_cut.specs.Stands.{Stands}
+use Rattle.never_cut.specs.Image.{IsImage}
 use Rattle.kernel_core.specs.declared.run_record.RunRecord.{RunRecord}
 use Rattle.kernel_core.specs.Record.{ChargeRecord}
 
@@ -23,7 +24,8 @@ journal_in r = flat_map entries_of r.charges
 abbrev pub state_in : RunRecord → Model
 state_in r = after r.job.program r.job.readings (open_model r.job.program) (journal_in r)
 
--- the record's journal is legal, and its words stand for the never-cut kernel after it
+-- the record's journal is legal, and its words stand for the never-cut kernel after it and are an image of its program
 pub record RecordStands (r : RunRecord) : Type 0 where
   pub legal : IsLegal r.job.program r.job.readings (open_model r.job.program) (journal_in r)
   pub stands : Stands (memory_of (shape_of r.job.program) r.words) r.job.program (state_in r)
+  pub image : IsImage r.job.program (memory_of (shape_of r.job.program) r.words)

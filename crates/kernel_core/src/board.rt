@@ -93,7 +93,7 @@ impl Core {
     }
 
     /// What the board leaves behind: the job, what each charge recorded, and the words as they stand, which stand for the never-cut
-    /// kernel after the record's journal. It takes no memory.
+    /// kernel after the record's journal and are an image of the program. It takes no memory.
     pub fn into_record(self) -> RunRecord
         ensures job { result.job ≡ self.job }
         ensures charges { result.charges ≡ self.board.charges }
