@@ -6,7 +6,6 @@ use Rattle.std.proofs.lemmas.Bool.Decides.{nat_tests}
 use Rattle.std.proofs.lemmas.List.{get_or-replicate, get_or_past, length-replicate}
 use Rattle.task_isa.specs.declared.program.Program.{Program}
 use Rattle.prog_check.specs.Lookup.{timer_def}
-use Rattle.prog_check.specs.Accepted.{IsAccepted}
 use Rattle.fram_words.specs.declared.access.Access.TheVariants as fram
 use Rattle.fram_words.specs.declared.layout.Layout.{Layout}
 use Rattle.fram_words.specs.Words.{performed, zeros}
@@ -20,7 +19,6 @@ use Rattle.ink_layout.specs.Addresses.{layout_address}
 use Rattle.ink_layout.specs.Layouts.{IsLayout}
 use Rattle.ink_layout.specs.Image.{timed_word, first_memory, Holds, IsFirstImage}
 use Rattle.ink_layout.specs.Stages.{code_until, with_blocks, put_word}
-use Rattle.ink_layout.proofs.Bounds.{few_words}
 use Rattle.ink_layout.proofs.Regions.{valid, below}
 use Rattle.ink_layout.proofs.Stages.{code_none}
 
@@ -47,26 +45,11 @@ holds_zeros program n e =
     zero_there false a = refl
 
 -- the address of a place on the board
-pub within_words : (program : Program) (layout : Layout) (words : List ℕ) (f : Place → ℕ) (p : Place) (addr : ℕ) → IsLayout program layout → Holds program words f →
+pub within_words : (program : Program) (layout : Layout) (words : List ℕ) (p : Place) (addr : ℕ) → IsLayout program layout → length words ≡ words_of (shape_of program) →
     IsOnBoard program p → addr ≡ layout_address layout p → addr < length words
-within_words program layout words f p addr is h on e =
+within_words program layout words p addr is count on e =
     let a : layout_address layout p ≡ address (shape_of program) p = is.addresses p on in
     let b : address (shape_of program) p < words_of (shape_of program) = below program p on in
-    omega (arith, h.count)
-
-pub within_count : (program : Program) (layout : Layout) (words : List ℕ) (p : Place) (addr : ℕ) → IsLayout program layout → length words ≡ words_of (shape_of program) →
-    IsOnBoard program p → addr ≡ layout_address layout p → addr < length words
-within_count program layout words p addr is count on e =
-    let a : layout_address layout p ≡ address (shape_of program) p = is.addresses p on in
-    let b : address (shape_of program) p < words_of (shape_of program) = below program p on in
-    omega arith
-
-pub few_before : (program : Program) (layout : Layout) (p : Place) (addr : ℕ) → IsAccepted program → IsLayout program layout → IsOnBoard program p →
-    addr ≡ layout_address layout p → addr < 100000
-few_before program layout p addr accepted is on e =
-    let a : layout_address layout p ≡ address (shape_of program) p = is.addresses p on in
-    let b : address (shape_of program) p < words_of (shape_of program) = below program p on in
-    let c : words_of (shape_of program) < 100000 = few_words program accepted in
     omega arith
 
 -- a store at that address is a store at the place
@@ -83,15 +66,10 @@ holds_store program layout words f p addr v is h on e =
           ∙ ap (λ w. cond (Rattle.fram_words.specs.Places.same_place p q) v w) (h.each q on_q));
     }
 
-pub holds_put : (program : Program) (layout : Layout) (words after : List ℕ) (f g : Place → ℕ) (p : Place) (addr v word : ℕ) → IsLayout program layout → Holds program words f →
-    IsOnBoard program p → addr ≡ layout_address layout p → after ≡ performed (fram.Store addr word) words → word ≡ v →
+-- once the word is stored, the next memory
+pub holds_put : (program : Program) (after : List ℕ) (f g : Place → ℕ) (p : Place) (word v : ℕ) → Holds program after (store f p word) → word ≡ v →
     ((q : Place) → IsOnBoard program q → store f p v q ≡ g q) → Holds program after g
-holds_put program layout words after f g p addr v word is h on e stored value same =
-    let one : Holds program (performed (fram.Store addr v) words) (store f p v) = holds_store program layout words f p addr v is h on e in
-    let two : Holds program (performed (fram.Store addr word) words) (store f p v) =
-    subst (λ w. Holds program (performed (fram.Store addr w) words) (store f p v)) (sym value) one in
-    let three : Holds program after (store f p v) = subst (λ (ws : List ℕ). Holds program ws (store f p v)) (sym stored) two in
-    holds_as program after (store f p v) g three same
+holds_put program after f g p word v h value same = holds_as program after (store f p word) g h (λ q on. ap (λ w. store f p w q) value ∙ same q on)
 
 -- the two words of a timer
 timed_here : (j thread due period u w other : ℕ) → 26 ≤ w → (w - 26) / 2 ≡ j →
@@ -125,12 +103,4 @@ holds_first program words h = holds_as program words (with_blocks program (timed
   where
     same : (q : Place) → IsOnBoard program q → with_blocks program (timed_word program (length program.timers)) q ≡ first_memory program q
     same (Page u p b k) on = refl
-    same (Code y m) on = refl
-    same (Commit u) on = refl
-    same (Log u k) on = refl
-    same (Ring u k) on = refl
-    same (Tail u) on = refl
-    same (Slot u k) on = refl
-    same (Ack i) on = refl
-    same Clock on = refl
-    same (Src i) on = refl
+    same _ on = refl

@@ -1,5 +1,5 @@
 -- A layout of the starts of a program's regions is the program's.
-use Rattle.std.proofs.Common.{◌≡◌, ℕ, suc, ◌-◌, ◌/◌, ◌+◌, ◌*◌, ◌<◌, List, length, get_or, refl, ap, ◌∙◌, sym, arith}
+use Rattle.std.proofs.Common.{◌≡◌, ℕ, suc, ◌+◌, ◌*◌, ◌<◌, List, length, get_or, refl, ap, ◌∙◌, sym, arith}
 use Rattle.task_isa.specs.declared.program.Program.{Program}
 use Rattle.fram_words.specs.declared.layout.Layout.{Layout}
 use Rattle.fram_words.specs.declared.layout.ThreadPlace.{ThreadPlace}

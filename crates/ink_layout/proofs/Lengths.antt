@@ -1,6 +1,7 @@
 -- The lengths of the regions of one more item.
 use Rattle.std.proofs.Common.{◌≡◌, ℕ, zero, suc, ◌+◌, ◌-◌, ◌*◌, ◌<◌, ◌≤◌, List, [], ◌∷◌, ◌++◌, length, map, take, get_or, refl, ap, ◌∙◌, sym, arith, length-append, inl, inr}
 use Rattle.std.proofs.lemmas.Bool.{cases_eq}
+use Rattle.std.proofs.lemmas.List.{get_or_append_left}
 use Rattle.task_isa.specs.declared.program.ThreadDef.{ThreadDef}
 use Rattle.fram_words.specs.Shape.{thread_regions, queue_regions, words_before}
 use Rattle.fram_words.proofs.Addresses.{before_next, before_further}
@@ -40,17 +41,12 @@ at_end [] x (suc n) e = absurd (omega arith)
 at_end (y ∷ xs) x zero e = absurd (omega arith)
 at_end (y ∷ xs) x (suc n) e = at_end xs x n (omega arith)
 
-at_start : (xs ys : List ℕ) (k : ℕ) → k < length xs → get_or (xs ++ ys) k 0 ≡ get_or xs k 0
-at_start [] ys k lt = absurd (omega arith)
-at_start (x ∷ xs) ys zero lt = refl
-at_start (x ∷ xs) ys (suc k) lt = at_start xs ys k (omega arith)
-
 -- one more start
 pub one_more : (n at : ℕ) (lengths starts : List ℕ) → Before n at lengths starts → (k : ℕ) → k < n + 1 → get_or (starts ++ at ∷ []) k 0 ≡ words_before lengths k
 one_more n at lengths starts b k lt =
     elim (cases_eq k n) [
       | inl e ↦ at_end starts at k (omega (arith, b.count)) ∙ (b.end ∙ ap (words_before lengths) (sym e))
-      | inr ne ↦ at_start starts (at ∷ []) k (omega (arith, b.count)) ∙ b.each k (omega arith)
+      | inr ne ↦ get_or_append_left starts (at ∷ []) 0 k (omega (arith, b.count)) ∙ b.each k (omega arith)
     ]
 
 pub before_more : (n at : ℕ) (lengths starts : List ℕ) → Before n at lengths starts → Before (n + 1) (at + get_or lengths n 0) lengths (starts ++ at ∷ [])

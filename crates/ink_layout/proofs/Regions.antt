@@ -21,9 +21,6 @@ at_right [] ys n k e = let same : k ≡ n = omega arith in ap (λ i. get_or ys i
 at_right (x ∷ xs) ys n zero e = absurd (omega arith)
 at_right (x ∷ xs) ys n (suc k) e = at_right xs ys n k (omega arith)
 
-pub at_left : (xs ys : List ℕ) (k : ℕ) → k < length xs → get_or (xs ++ ys) k 0 ≡ get_or xs k 0
-at_left xs ys k lt = get_or_append_left xs ys 0 k lt
-
 length-threads : (xs : List ThreadShape) → length (thread_regions xs) ≡ 3 * length xs
 length-threads [] = refl
 length-threads (x ∷ xs) = let h = length-threads xs in omega arith
@@ -98,7 +95,7 @@ module _ (program : Program) where
   in_blocks : (n k : ℕ) → k ≡ length tasks + n → n < 3 * length program.threads → get_or (regions (shape_of program)) k 0 ≡ get_or blocks n 0
   in_blocks n k e lt =
       at_right tasks (blocks ++ (rings ++ (queues ++ rest))) n k e
-      ∙ at_left blocks (rings ++ (queues ++ rest)) n (omega (arith, lengths.blocks))
+      ∙ get_or_append_left blocks (rings ++ (queues ++ rest)) 0 n (omega (arith, lengths.blocks))
 
   past_blocks : (n k : ℕ) → k ≡ length tasks + 3 * length program.threads + n → get_or (regions (shape_of program)) k 0 ≡ get_or (rings ++ (queues ++ rest)) n 0
   past_blocks n k e =
@@ -106,13 +103,13 @@ module _ (program : Program) where
       ∙ at_right blocks (rings ++ (queues ++ rest)) n (3 * length program.threads + n) (omega (arith, lengths.blocks))
 
   in_rings : (n k : ℕ) → k ≡ length tasks + 3 * length program.threads + n → n < length program.pipes → get_or (regions (shape_of program)) k 0 ≡ get_or rings n 0
-  in_rings n k e lt = past_blocks n k e ∙ at_left rings (queues ++ rest) n (omega (arith, lengths.rings))
+  in_rings n k e lt = past_blocks n k e ∙ get_or_append_left rings (queues ++ rest) 0 n (omega (arith, lengths.rings))
 
   in_queues : (n k : ℕ) → k ≡ length tasks + 3 * length program.threads + length program.pipes + n → n < 2 * length program.threads →
       get_or (regions (shape_of program)) k 0 ≡ get_or queues n 0
   in_queues n k e lt =
       past_blocks (length program.pipes + n) k (omega arith)
-      ∙ (at_right rings (queues ++ rest) n (length program.pipes + n) (omega (arith, lengths.rings)) ∙ at_left queues rest n (omega (arith, lengths.queues)))
+      ∙ (at_right rings (queues ++ rest) n (length program.pipes + n) (omega (arith, lengths.rings)) ∙ get_or_append_left queues rest 0 n (omega (arith, lengths.queues)))
 
   -- the last three regions: the ACKs, the clock, the SRCs
   pub in_rest : (n k : ℕ) → k ≡ length tasks + 3 * length program.threads + length program.pipes + 2 * length program.threads + n →
@@ -125,7 +122,7 @@ module _ (program : Program) where
   -- the words of a place's region
   room_of : (p : Place) → IsOnBoard program p → offset p < get_or (regions (shape_of program)) (region (shape_of program) p) 0
   room_of (Code x n) h =
-      let e = at_left tasks (blocks ++ (rings ++ (queues ++ rest))) x (omega (arith, lengths.tasks)) ∙ at_map task_words program.tasks no_task_def x h.0 in
+      let e = get_or_append_left tasks (blocks ++ (rings ++ (queues ++ rest))) 0 x (omega (arith, lengths.tasks)) ∙ at_map task_words program.tasks no_task_def x h.0 in
       omega (arith, e)
   room_of (Commit t) h =
       let e = in_blocks (3 * t) (region (shape_of program) (Commit t)) refl (omega arith) in

@@ -6,7 +6,7 @@ use Rattle.task_isa.specs.declared.program.Program.{Program}
 use Rattle.task_isa.specs.Code.{word_of_instr}
 use Rattle.prog_check.specs.Lookup.{thread_def, task_def, instr_at}
 use Rattle.push_core.specs.Slots.{empty_word}
-use Rattle.fram_words.specs.Places.{Place, Code, Commit, Page, Log, Ring, Tail, Slot, Ack, Clock, Src, store}
+use Rattle.fram_words.specs.Places.{Place, Code, Page, Slot, store}
 use Rattle.ink_layout.specs.Shape.{IsOnBoard}
 use Rattle.ink_layout.specs.Image.{timed_word}
 use Rattle.ink_layout.specs.Stages.{comes_before, code_until, slots_until, with_blocks, put_word}

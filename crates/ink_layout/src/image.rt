@@ -1,156 +1,142 @@
 //! The words of a board before its first charge.
 
-ghost use Rattle.std.specs.Prelude.{◌≡◌, ℕ, ◌+◌, ◌*◌, ◌/◌, ◌%◌, ◌<◌, ◌≤◌, length, IfOk};
-ghost use Rattle.prog_check.specs.Accepted.{IsAccepted};
+ghost use Rattle.std.specs.Prelude.{◌≡◌, ℕ, ◌+◌, ◌<◌, length, IfOk};
 ghost use Rattle.prog_check.specs.Lookup.{thread_def, task_def};
-ghost use Rattle.fram_words.specs.Places.{Place, Code, Slot, Page, store};
+ghost use Rattle.fram_words.specs.Places.{Code, Memory, Slot, store};
+ghost use Rattle.fram_words.specs.Steps.{place_of};
 ghost use Rattle.fram_words.specs.Header as header;
 ghost use Rattle.fram_words.specs.Held as held;
 ghost use Rattle.ink_layout.specs.Image.{Holds, IsFirstImage, timed_word};
-ghost use Rattle.ink_layout.specs.Layouts.{IsLayout};
 ghost use Rattle.ink_layout.specs.Shape.{IsOnBoard, shape_of, words_of};
 ghost use Rattle.ink_layout.specs.Stages.{code_until, slots_until, with_blocks, put_word};
 
-use fram_words::{Access, Fram, Header, Layout, due_word};
-use ink_base::{NoMemory, ThreadId};
-use prog_check::Accepted;
+use crate::plan::Plan;
+use fram_words::{Fram, Header, Place, Step, due_word};
+use ink_base::{NoMemory, TaskId, ThreadId};
 use push_core::empty;
 use std::alloc::Global;
-use task_isa::{Instr, Program, encode};
+use task_isa::{Instr, encode};
 
 /// The words of a program's board before its first charge: the code words; in slot `n` of each queue the empty word of position `n`;
 /// in both copies of each thread's header the starting words of its timers; and zeros.
-pub fn first_image(alloc: Global, program: &Accepted, layout: &Layout) -> Result<Fram, NoMemory>
-    requires { IsLayout program.now layout.now }
-    ensures { IfOk result (λ fram. IsFirstImage program.now fram) }
+pub fn first_image(alloc: Global, plan: &Plan) -> Result<Fram, NoMemory>
+    ensures { IfOk result (λ fram. IsFirstImage plan.now.accepted fram) }
 {
-    let mut fram = Fram::new(alloc, layout.words)?;
-    write_first_image(&mut fram, program, layout);
+    // The layout is the program's own.
+    let _program = plan.program();
+    let mut fram = Fram::new(alloc, plan.layout.words)?;
+    write_first_image(&mut fram, plan);
     Ok(fram)
 }
 
 /// Writes those words over the words of the program's board. It takes no memory.
-pub fn write_first_image(fram: &mut Fram, program: &Accepted, layout: &Layout)
-    requires layout { IsLayout program.now layout.now }
-    requires count { length fram.old ≡ words_of (shape_of program.now) }
-    ensures { IsFirstImage program.now fram.new }
+pub fn write_first_image(fram: &mut Fram, plan: &Plan)
+    requires { length fram.old ≡ words_of (shape_of plan.now.accepted) }
+    ensures { IsFirstImage plan.now.accepted fram.new }
 {
-    let program = program.program();
     fram.clear();
-    store_code(fram, program, layout);
-    empty_queues(fram, program, layout);
-    start_timers(fram, program, layout);
+    store_code(fram, plan);
+    empty_queues(fram, plan);
+    start_timers(fram, plan);
 }
 
-fn store_code(fram: &mut Fram, program: &Program, layout: &Layout)
-    requires accepted { IsAccepted program.now }
-    requires layout { IsLayout program.now layout.now }
-    requires before { Holds program.now fram.old (code_until program.now 0 0) }
-    ensures { Holds program.now fram.new (code_until program.now (length program.now.tasks) 0) }
+fn store_code(fram: &mut Fram, plan: &Plan)
+    requires { Holds plan.now.accepted fram.old (code_until plan.now.accepted 0 0) }
+    ensures { Holds plan.now.accepted fram.new (code_until plan.now.accepted (length plan.now.accepted.tasks) 0) }
 {
-    for x in 0..program.tasks.len() {
-        store_task(fram, program, layout, x);
+    for x in 0..plan.program().tasks.len() {
+        store_task(fram, plan, x);
     }
 }
 
-fn store_task(fram: &mut Fram, program: &Program, layout: &Layout, x: usize)
-    requires accepted { IsAccepted program.now }
-    requires layout { IsLayout program.now layout.now }
-    requires known { x < length program.now.tasks }
-    requires before { Holds program.now fram.old (code_until program.now x 0) }
-    ensures { Holds program.now fram.new (code_until program.now (x + 1) 0) }
+fn store_task(fram: &mut Fram, plan: &Plan, x: usize)
+    requires known { x < length plan.now.accepted.tasks }
+    requires before { Holds plan.now.accepted fram.old (code_until plan.now.accepted x 0) }
+    ensures { Holds plan.now.accepted fram.new (code_until plan.now.accepted (x + 1) 0) }
 {
-    for n in 0..code_of(program, x).len() {
-        store_instr(fram, program, layout, x, n);
+    for n in 0..code_of(plan, x).len() {
+        store_instr(fram, plan, x, n);
     }
 }
 
-fn store_instr(fram: &mut Fram, program: &Program, layout: &Layout, x: usize, n: usize)
-    requires accepted { IsAccepted program.now }
-    requires layout { IsLayout program.now layout.now }
-    requires on_board { IsOnBoard program.now (Code x n) }
-    requires before { Holds program.now fram.old (code_until program.now x n) }
-    ensures { Holds program.now fram.new (code_until program.now x (n + 1)) }
+fn store_instr(fram: &mut Fram, plan: &Plan, x: usize, n: usize)
+    requires on_board { IsOnBoard plan.now.accepted (Code x n) }
+    requires before { Holds plan.now.accepted fram.old (code_until plan.now.accepted x n) }
+    ensures { Holds plan.now.accepted fram.new (code_until plan.now.accepted x (n + 1)) }
 {
-    let word = encode(code_of(program, x)[n]);
-    let addr = layout.tasks.as_slice()[x] + n as u32;
-    fram.perform(Access::Store(addr, word));
+    // The program is accepted, so its tasks and their code are few.
+    let _program = plan.program();
+    let word = encode(code_of(plan, x)[n]);
+    let (task, offset) = (TaskId(x as u16), n as u32);
+    put(fram, plan, Place::Code { task, offset }, word);
 }
 
 // The code of a task.
-fn code_of(program: &Program, x: usize) -> &[Instr]
-    requires { x < length program.now.tasks }
-    ensures { result.now ≡ (task_def program.now x).code }
+fn code_of(plan: &Plan, x: usize) -> &[Instr]
+    requires { x < length plan.now.accepted.tasks }
+    ensures { result.now ≡ (task_def plan.now.accepted x).code }
 {
-    program.tasks.as_slice()[x].code.as_slice()
+    plan.program().tasks.as_slice()[x].code.as_slice()
 }
 
-fn empty_queues(fram: &mut Fram, program: &Program, layout: &Layout)
-    requires accepted { IsAccepted program.now }
-    requires layout { IsLayout program.now layout.now }
-    requires before { Holds program.now fram.old (slots_until program.now 0 0) }
-    ensures { Holds program.now fram.new (slots_until program.now (length program.now.threads) 0) }
+fn empty_queues(fram: &mut Fram, plan: &Plan)
+    requires { Holds plan.now.accepted fram.old (slots_until plan.now.accepted 0 0) }
+    ensures { Holds plan.now.accepted fram.new (slots_until plan.now.accepted (length plan.now.accepted.threads) 0) }
 {
-    for t in 0..program.threads.len() {
-        empty_queue(fram, program, layout, t);
+    for t in 0..plan.program().threads.len() {
+        empty_queue(fram, plan, t);
     }
 }
 
-fn empty_queue(fram: &mut Fram, program: &Program, layout: &Layout, t: usize)
-    requires accepted { IsAccepted program.now }
-    requires layout { IsLayout program.now layout.now }
-    requires known { t < length program.now.threads }
-    requires before { Holds program.now fram.old (slots_until program.now t 0) }
-    ensures { Holds program.now fram.new (slots_until program.now (t + 1) 0) }
+fn empty_queue(fram: &mut Fram, plan: &Plan, t: usize)
+    requires known { t < length plan.now.accepted.threads }
+    requires before { Holds plan.now.accepted fram.old (slots_until plan.now.accepted t 0) }
+    ensures { Holds plan.now.accepted fram.new (slots_until plan.now.accepted (t + 1) 0) }
 {
-    for n in 0..queue_len(program, t) {
-        empty_slot(fram, program, layout, t, n);
+    for n in 0..queue_len(plan, t) {
+        empty_slot(fram, plan, t, n);
     }
 }
 
-fn empty_slot(fram: &mut Fram, program: &Program, layout: &Layout, t: usize, n: u32)
-    requires accepted { IsAccepted program.now }
-    requires layout { IsLayout program.now layout.now }
-    requires on_board { IsOnBoard program.now (Slot t n) }
-    requires before { Holds program.now fram.old (slots_until program.now t n) }
-    ensures { Holds program.now fram.new (slots_until program.now t (n + 1)) }
+fn empty_slot(fram: &mut Fram, plan: &Plan, t: usize, n: u32)
+    requires on_board { IsOnBoard plan.now.accepted (Slot t n) }
+    requires before { Holds plan.now.accepted fram.old (slots_until plan.now.accepted t n) }
+    ensures { Holds plan.now.accepted fram.new (slots_until plan.now.accepted t (n + 1)) }
 {
-    let addr = layout.queues.as_slice()[t].slots + n;
-    fram.perform(Access::Store(addr, empty(n)));
+    // The program is accepted, so its threads and their slots are few.
+    let _program = plan.program();
+    let thread = ThreadId(t as u8);
+    put(fram, plan, Place::Slot { thread, index: n }, empty(n));
 }
 
 // The number of slots of a thread's queue.
-fn queue_len(program: &Program, t: usize) -> u32
-    requires { t < length program.now.threads }
-    ensures { result ≡ (thread_def program.now t).queue }
+fn queue_len(plan: &Plan, t: usize) -> u32
+    requires { t < length plan.now.accepted.threads }
+    ensures { result ≡ (thread_def plan.now.accepted t).queue }
 {
-    program.threads.as_slice()[t].queue as u32
+    plan.program().threads.as_slice()[t].queue as u32
 }
 
-fn start_timers(fram: &mut Fram, program: &Program, layout: &Layout)
-    requires accepted { IsAccepted program.now }
-    requires layout { IsLayout program.now layout.now }
-    requires before { Holds program.now fram.old (with_blocks program.now (timed_word program.now 0)) }
-    ensures { Holds program.now fram.new (with_blocks program.now (timed_word program.now (length program.now.timers))) }
+fn start_timers(fram: &mut Fram, plan: &Plan)
+    requires { Holds plan.now.accepted fram.old (with_blocks plan.now.accepted (timed_word plan.now.accepted 0)) }
+    ensures { Holds plan.now.accepted fram.new (with_blocks plan.now.accepted (timed_word plan.now.accepted (length plan.now.accepted.timers))) }
 {
-    for j in 0..program.timers.len() {
-        start_timer(fram, program, layout, j);
+    for j in 0..plan.program().timers.len() {
+        start_timer(fram, plan, j);
     }
 }
 
-fn start_timer(fram: &mut Fram, program: &Program, layout: &Layout, j: usize)
-    requires accepted { IsAccepted program.now }
-    requires layout { IsLayout program.now layout.now }
-    requires known { j < length program.now.timers }
-    requires before { Holds program.now fram.old (with_blocks program.now (timed_word program.now j)) }
-    ensures { Holds program.now fram.new (with_blocks program.now (timed_word program.now (j + 1))) }
+fn start_timer(fram: &mut Fram, plan: &Plan, j: usize)
+    requires known { j < length plan.now.accepted.timers }
+    requires before { Holds plan.now.accepted fram.old (with_blocks plan.now.accepted (timed_word plan.now.accepted j)) }
+    ensures { Holds plan.now.accepted fram.new (with_blocks plan.now.accepted (timed_word plan.now.accepted (j + 1))) }
 {
-    let timer = &program.timers.as_slice()[j];
+    let timer = &plan.program().timers.as_slice()[j];
     let (thread, due, period) = (timer.thread, first_due(timer.due), timer.period as u64);
     let due_at = Header::Due(j as u32).word();
     let period_at = Header::Period(j as u32).word();
-    put_both(fram, program, layout, thread, due_at, due);
-    put_both(fram, program, layout, thread, period_at, period);
+    put_both(fram, plan, thread, due_at, due);
+    put_both(fram, plan, thread, period_at, period);
 }
 
 // The word of a timer before the first charge.
@@ -164,45 +150,38 @@ fn first_due(due: Option<u32>) -> u64
 }
 
 // Stores a word of a thread's header in both copies of its page.
-fn put_both(
-    fram: &mut Fram,
-    program: &Program,
-    layout: &Layout,
-    thread: ThreadId,
-    word: u32,
-    value: u64,
-)
-    requires accepted { IsAccepted program.now }
-    requires layout { IsLayout program.now layout.now }
-    requires known { thread.0 < length program.now.threads }
+fn put_both(fram: &mut Fram, plan: &Plan, thread: ThreadId, word: u32, value: u64)
+    requires known { thread.0 < length plan.now.accepted.threads }
     requires within { word < header.words }
-    requires count { length fram.old ≡ words_of (shape_of program.now) }
-    ensures stored { (block : ℕ → ℕ → ℕ) → Holds program.now fram.old (with_blocks program.now block) → Holds program.now fram.new (with_blocks program.now (put_word block thread.0 word value)) }
-    ensures count { length fram.new ≡ words_of (shape_of program.now) }
+    requires count { length fram.old ≡ words_of (shape_of plan.now.accepted) }
+    ensures stored { (block : ℕ → ℕ → ℕ) → Holds plan.now.accepted fram.old (with_blocks plan.now.accepted block) → Holds plan.now.accepted fram.new (with_blocks plan.now.accepted (put_word block thread.0 word value)) }
+    ensures count { length fram.new ≡ words_of (shape_of plan.now.accepted) }
 {
-    put_copy(fram, program, layout, thread, word, 0, value);
-    put_copy(fram, program, layout, thread, word, 1, value);
+    let (page, word) = (word / 8, word % 8);
+    let first = Place::Page {
+        thread,
+        page,
+        copy: 0,
+        word,
+    };
+    let second = Place::Page {
+        thread,
+        page,
+        copy: 1,
+        word,
+    };
+    put(fram, plan, first, value);
+    put(fram, plan, second, value);
 }
 
-fn put_copy(
-    fram: &mut Fram,
-    program: &Program,
-    layout: &Layout,
-    thread: ThreadId,
-    word: u32,
-    copy: u32,
-    value: u64,
-)
-    requires accepted { IsAccepted program.now }
-    requires layout { IsLayout program.now layout.now }
-    requires known { thread.0 < length program.now.threads }
-    requires within { word < header.words }
-    requires two { copy < 2 }
-    requires count { length fram.old ≡ words_of (shape_of program.now) }
-    ensures stored { (memory : Place → ℕ) → Holds program.now fram.old memory → Holds program.now fram.new (store memory (Page thread.0 (word / 8) copy (word % 8)) value) }
-    ensures count { length fram.new ≡ words_of (shape_of program.now) }
+// Stores a word of the board.
+fn put(fram: &mut Fram, plan: &Plan, place: Place, word: u64)
+    requires on_board { IsOnBoard plan.now.accepted (place_of place) }
+    requires count { length fram.old ≡ words_of (shape_of plan.now.accepted) }
+    ensures stored { (memory : Memory) → Holds plan.now.accepted fram.old memory → Holds plan.now.accepted fram.new (store memory (place_of place) word) }
+    ensures count { length fram.new ≡ words_of (shape_of plan.now.accepted) }
 {
-    let first = layout.threads.as_slice()[thread.0 as usize].first;
-    let addr = first + 16 * (word / 8) + 8 * copy + word % 8;
-    fram.perform(Access::Store(addr, value));
+    // The layout is the program's own.
+    let _program = plan.program();
+    fram.perform(plan.access(Step::Store(place, word)));
 }

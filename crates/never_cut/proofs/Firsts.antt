@@ -3,10 +3,10 @@ use Rattle.std.proofs.Common.{◌≡◌, ℕ, suc, ◌+◌, ◌-◌, ◌<◌, Bo
 use Rattle.std.specs.Prelude.{Some}
 use Rattle.never_cut.specs.Pending.{first_number}
 
-first_number_skips : (test : ℕ → Bool) (at left more : ℕ) → left ≡ suc more → test at ≡ false → first_number test at left ≡ first_number test (at + 1) more
+pub first_number_skips : (test : ℕ → Bool) (at left more : ℕ) → left ≡ suc more → test at ≡ false → first_number test at left ≡ first_number test (at + 1) more
 first_number_skips test at left more count fails = rw (count, fails) refl
 
-first_number_finds : (test : ℕ → Bool) (at left more : ℕ) → left ≡ suc more → test at ≡ true → first_number test at left ≡ Some at
+pub first_number_finds : (test : ℕ → Bool) (at left more : ℕ) → left ≡ suc more → test at ≡ true → first_number test at left ≡ Some at
 first_number_finds test at left more count holds = rw (count, holds) refl
 
 -- a search among the numbers below n that came to q finds it

@@ -3,6 +3,7 @@ use Rattle.std.proofs.Common.{◌≡◌, ℕ, zero, suc, ◌+◌, ◌-◌, ◌<�
 use Rattle.std.specs.Prelude.{if◌then◌else◌}
 use Rattle.std.proofs.lemmas.Bool.{cases_eq, cases_lt}
 use Rattle.never_cut.specs.Pending.{first_number}
+use Rattle.never_cut.proofs.Firsts.{first_number_skips, first_number_finds}
 
 -- the number meets the test and none before it does; or none does
 abbrev pub IsSearched : (ℕ → Bool) → (at count : ℕ) → Option ℕ → Type 0
@@ -57,22 +58,16 @@ search_none test count none = by_found (first_number test 0 count) (searched tes
     by_found None h = refl
     by_found (Some k) h = absurd (let fails : test k ≡ false = none k (let lt : k < 0 + count = h.1 in omega arith) in let meets : test k ≡ true = h.2 in cc)
 
-skips : (test : ℕ → Bool) (at left more : ℕ) → left ≡ suc more → test at ≡ false → first_number test at left ≡ first_number test (at + 1) more
-skips test at left more count fails = rw (count, fails) refl
-
-ends : (test : ℕ → Bool) (at left more : ℕ) → left ≡ suc more → test at ≡ true → first_number test at left ≡ Some at
-ends test at left more count holds = rw (count, holds) refl
-
 -- a search from a number on, among those below n, that came to q ends there
 pub search_ends : (test : ℕ → Bool) (from n q : ℕ) → q < n → first_number test from (n - from) ≡ first_number test q (n - q) → test q ≡ true →
     Some q ≡ first_number test from (n - from)
 search_ends test from n q within so_far holds =
     let count : n - q ≡ suc (n - (q + 1)) = omega arith in
-    sym (so_far ∙ ends test q (n - q) (n - (q + 1)) count holds)
+    sym (so_far ∙ first_number_finds test q (n - q) (n - (q + 1)) count holds)
 
 -- or goes on behind it
 pub search_goes_on : (test : ℕ → Bool) (from n q : ℕ) → q < n → first_number test from (n - from) ≡ first_number test q (n - q) → test q ≡ false →
     first_number test from (n - from) ≡ first_number test (q + 1) (n - (q + 1))
 search_goes_on test from n q within so_far fails =
     let count : n - q ≡ suc (n - (q + 1)) = omega arith in
-    so_far ∙ skips test q (n - q) (n - (q + 1)) count fails
+    so_far ∙ first_number_skips test q (n - q) (n - (q + 1)) count fails

@@ -1,21 +1,22 @@
 -- What a source knows after each of its own accesses.
-use Rattle.std.proofs.Common.{◌≡◌, ◌⊎◌, inl, inr, ℕ, ◌+◌, ◌/◌, ◌%◌, ◌^◌, ◌<◌, ◌≤◌, ◌==◌, ◌&&◌, ◌||◌, cond, nat_lt, Bool, true, false, length, refl, sym, ap, ◌∙◌, subst, arith, Some, None, Option, mod-lt, eqb-true, eq-eqb, ne_eqb, ltb-true, ltb-false, lt-ltb, true≢false}
-use Rattle.std.proofs.lemmas.Bool.{cases_lt, cases_eq, or_cases, and_parts, and_from, false≢true}
-use Rattle.push_core.specs.Slots.{empty_word, slot_in}
-use Rattle.push_core.specs.Queue.{Queue, published, event_at, event_source, event_count, event_word, event_slot, IsNumber, FitsEvent, StandsQueue, KeepsNumbers}
-use Rattle.push_core.proofs.Events.{slot_in-event_word, event_word-≢-empty_word, number_source, number_count}
-use Rattle.push_core.proofs.Queues.{SlotIs, Holds, IsEmpty, slot_is}
-use Rattle.source_laws.specs.Model.{Near}
-use Rattle.push_core.specs.Table.{src_word, shows_own, after_boot_slot, after_ack, after_slot, is_full_at}
-use Rattle.push_core.specs.declared.stage.Stage.{Stage}
-use Rattle.push_core.specs.declared.stage.Stage.TheVariants.{LoadSlots, LoadAck, LoadTail, LoadSlot, Publish, HelpTail, StoreSkip, StoreAccepted}
-use Rattle.source_laws.specs.kept.Knows.{KnowsAt, Boots}
-use Rattle.source_laws.specs.Stands.{IsOrdered}
+use Rattle.std.proofs.Common.{◌≡◌, ◌⊎◌, inl, inr, ℕ, ◌+◌, ◌/◌, ◌%◌, ◌^◌, ◌<◌, ◌≤◌, ◌==◌, ◌&&◌, ◌||◌, cond, nat_lt, Bool, true, false, length, refl, sym, ap, ◌∙◌, subst, arith, Some, None, Option, mod-lt}
+use Rattle.std.proofs.lemmas.Bool.{cases_lt, cases_eq, or_cases, or_left, or_right, and_parts, and_from, eqb-true, eq-eqb, ne_eqb, ltb-true, ltb-false, lt-ltb, false≢true, true≢false}
 use Rattle.ink_base.specs.declared.ids.SourceId.{SourceId}
 use Rattle.push_core.specs.declared.slot.Slot.{Slot}
 use Rattle.push_core.specs.declared.slot.Slot.TheVariants.{Empty, Full}
+use Rattle.push_core.specs.Slots.{empty_word, slot_in}
+use Rattle.push_core.specs.Queue.{Queue, published, event_at, event_source, event_count, event_word, event_slot, IsNumber, FitsEvent, StandsQueue, KeepsNumbers}
 use Rattle.push_core.proofs.Slots.{slot_in-empty}
+use Rattle.push_core.proofs.Events.{slot_in-event_word, event_word-≢-empty_word, number_source, number_count}
 use Rattle.push_core.proofs.Rings.{same_position, next_turn}
+use Rattle.push_core.proofs.Queues.{SlotIs, Holds, IsEmpty, slot_is}
+use Rattle.source_laws.specs.Model.{Near}
+use Rattle.push_core.specs.Table.{src_word}
+use Rattle.push_core.specs.declared.stage.Stage.{Stage}
+use Rattle.push_core.specs.declared.stage.Stage.TheVariants.{LoadSlots, LoadAck, LoadTail, LoadSlot, Publish, HelpTail, StoreSkip, StoreAccepted}
+use Rattle.push_core.specs.Table.{shows_own, after_boot_slot, after_ack, after_slot, is_full_at}
+use Rattle.source_laws.specs.kept.Knows.{KnowsAt, Boots}
+use Rattle.source_laws.specs.Stands.{IsOrdered}
 use Rattle.source_laws.proofs.Sources.{own_count, ack_behind, last_one, src_parts, stored_as}
 
 -- what is known of a source, its queue and its words
@@ -45,14 +46,6 @@ passed_no : (places p : ℕ) (o : Option Slot) → ((x : ℕ) (i : SourceId) (c 
 passed_no places p None nf = refl
 passed_no places p (Some (Empty x)) nf = refl
 passed_no places p (Some (Full x i c v)) nf = ne_eqb (x + places) p (nf x i c v refl)
-
-or_first : (x y : Bool) → x ≡ true → (x || y) ≡ true
-or_first true y e = refl
-or_first false y e = absurd (false≢true e)
-
-or_second : (x y : Bool) → y ≡ true → (x || y) ≡ true
-or_second true y e = refl
-or_second false y e = e
 
 module _ {i places readings : ℕ} {slot : ℕ → ℕ} {v : Near} (h : Own i places readings slot v) where
   -- what source i knows in a row, with these words
@@ -119,9 +112,9 @@ module _ {i places readings : ℕ} {slot : ℕ → ℕ} {v : Near} (h : Own i pl
       | inr late ↦ late.0
     ];
     unseen_one = λ one. elim (b.unseen_one one) [
-      | inl before ↦ inl (or_first seen _ before)
+      | inl before ↦ inl (or_left seen _ before)
       | inr (inl x) ↦ elim (cases_eq ((v.queue.released + x.0) % places) n) [
-        | inl here ↦ inl (or_second seen _ (shows_ahead a n x.0 x.1 x.2 here))
+        | inl here ↦ inl (or_right seen _ (shows_ahead a n x.0 x.1 x.2 here))
         | inr beyond ↦ inr (inl (x.0, x.1, x.2, omega (arith, x.3, beyond)))
       ]
       | inr (inr y) ↦ inr (inr y)
@@ -159,9 +152,9 @@ module _ {i places readings : ℕ} {slot : ℕ → ℕ} {v : Near} (h : Own i pl
             | inr late ↦
                 let left : nat_lt k readings ≡ true = lt-ltb _ _ (omega (arith, late.1, h.ordered.next)) in
                 let found : (seen || v.ack == (a + 1) % 64) ≡ true = elim (b.unseen_one late.0) [
-                  | inl before ↦ or_first seen _ before
+                  | inl before ↦ or_left seen _ before
                   | inr (inl x) ↦ absurd (omega (arith, x.3, mod-lt (v.queue.released + x.0) h.some))
-                  | inr (inr y) ↦ or_second seen _ (eq-eqb _ _ y)
+                  | inr (inr y) ↦ or_right seen _ (eq-eqb _ _ y)
                 ] in
                 absurd (false≢true (sym e ∙ and_from _ _ left found))
           ]
