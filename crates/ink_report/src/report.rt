@@ -37,13 +37,7 @@ pub fn run_text(
     summary.count(entries);
     let mut out = Vec::new(alloc);
     let program = program.program();
-    put_head(
-        &mut out,
-        program,
-        model.outputs.as_slice(),
-        &summary,
-        flags,
-    )?;
+    put_head(&mut out, program, model.outputs.as_slice(), &summary, flags)?;
     put_entries_part(&mut out, program, entries, flags)?;
     Ok(out)
 }

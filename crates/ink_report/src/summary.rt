@@ -153,12 +153,20 @@ fn sources_at(
 {
     let mut sources = Items::new(alloc);
     for i in 0..program.sources.len() {
-        sources.push(SourceSummary {
-            source: SourceId(i as u8),
-            next: model.sources.as_slice()[i].next,
-            pushed: 0,
-            refused: 0,
-        })?;
+        sources.push(source_at(model, i))?;
     }
     Ok(sources)
+}
+
+fn source_at(model: &Model, i: usize) -> SourceSummary
+    requires few { i < 16 }
+    requires there { i < length model.now.sources }
+    ensures { result ≡ source_summary model.now [] i }
+{
+    SourceSummary {
+        source: SourceId(i as u8),
+        next: model.sources.as_slice()[i].next,
+        pushed: 0,
+        refused: 0,
+    }
 }
