@@ -49,11 +49,7 @@ impl MemSource {
 }
 
 impl Source for MemSource {
-    ghost left = { λ s. Some s.left };
-
-    ghost faults = { λ s. s.calls.faults };
-
-    ghost reads = { λ s. s.reads };
+    ghost state = { λ s. record { left = Some s.left; faults = s.calls.faults; reads = s.reads } };
 
     fn read(&mut self, into: &mut [u8]) -> Result<usize, Failed>
         ensures fails { IsErr result ↔ IsTrue (fails_next self.old.calls) }
@@ -120,9 +116,7 @@ impl MemSink {
 }
 
 impl Sink for MemSink {
-    ghost held = { λ s. Some s.held };
-
-    ghost faults = { λ s. s.calls.faults };
+    ghost state = { λ s. record { held = Some s.held; faults = s.calls.faults } };
 
     fn write(&mut self, piece: &[u8]) -> Result<usize, Failed>
         ensures fails { IsErr result ↔ IsTrue (write_fails self.old (length piece.now)) }

@@ -1,20 +1,17 @@
 //! What gives bytes.
 
-ghost use Rattle.std.specs.Prelude.{ℕ, List, Option};
 ghost use Rattle.std.specs.Io.{ReadsAtMost};
 ghost use Rattle.std.specs.Io.KnownBytes.{ReadConsumes};
 ghost use Rattle.ink_io.specs.Counts.{HasCause, CountsOk};
+ghost use Rattle.ink_io.specs.States.{SourceState};
 
 use crate::answers::Failed;
 
 /// Gives the bytes of an input in order, a piece at each call.
 pub trait Source {
-    /// The bytes that are left, where the source tells them.
-    ghost left: { Self → Option (List ℕ) };
-    /// How many calls have failed. A count never falls, and stays at its type's last value.
-    ghost faults: { Self → ℕ };
-    /// How many calls were answered with `Ok`.
-    ghost reads: { Self → ℕ };
+    /// The bytes that are left, how many calls have failed, and how many were answered with `Ok`. A count never falls, and stays at its
+    /// type's last value.
+    ghost state: { Self → SourceState };
 
     /// Puts the next bytes at the front of `into` and answers how many they are.
     ///
@@ -22,7 +19,7 @@ pub trait Source {
     /// and takes nothing.
     fn read(&mut self, into: &mut [u8]) -> Result<usize, Failed>
         ensures bound { ReadsAtMost result into.new }
-        ensures bytes { ReadConsumes (left self.old) (left self.new) result into.new }
-        ensures cause { HasCause (faults self.old) (faults self.new) result }
-        ensures counted { CountsOk (reads self.old) (reads self.new) result };
+        ensures bytes { ReadConsumes (state self.old).left (state self.new).left result into.new }
+        ensures cause { HasCause (state self.old).faults (state self.new).faults result }
+        ensures counted { CountsOk (state self.old).reads (state self.new).reads result };
 }

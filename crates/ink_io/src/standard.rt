@@ -18,9 +18,7 @@ pub struct StdSource<R: Read> {
 impl<R: Read> StdSource<R> {
     /// The bytes that the reader gives from here on.
     pub fn new(reader: R) -> StdSource<R>
-        ensures left { ⟦<StdSource<R> as Source>⟧.left result ≡ R.remaining reader }
-        ensures faults { ⟦<StdSource<R> as Source>⟧.faults result ≡ 0 }
-        ensures reads { ⟦<StdSource<R> as Source>⟧.reads result ≡ 0 }
+        ensures { ⟦<StdSource<R> as Source>⟧.state result ≡ record { left = R.remaining reader; faults = 0; reads = 0 } }
     {
         StdSource {
             inner: reader,
@@ -31,11 +29,7 @@ impl<R: Read> StdSource<R> {
 }
 
 impl<R: Read> Source for StdSource<R> {
-    ghost left = { λ s. R.remaining s.inner };
-
-    ghost faults = { λ s. s.faults };
-
-    ghost reads = { λ s. s.reads };
+    ghost state = { λ s. record { left = R.remaining s.inner; faults = s.faults; reads = s.reads } };
 
     fn read(&mut self, into: &mut [u8]) -> Result<usize, Failed> {
         match self.inner.read(into) {
@@ -61,8 +55,7 @@ pub struct StdSink<W: Write> {
 impl<W: Write> StdSink<W> {
     /// Appends to what the writer holds.
     pub fn new(writer: W) -> StdSink<W>
-        ensures held { ⟦<StdSink<W> as Sink>⟧.held result ≡ W.contents writer }
-        ensures faults { ⟦<StdSink<W> as Sink>⟧.faults result ≡ 0 }
+        ensures { ⟦<StdSink<W> as Sink>⟧.state result ≡ record { held = W.contents writer; faults = 0 } }
     {
         StdSink {
             inner: writer,
@@ -72,9 +65,7 @@ impl<W: Write> StdSink<W> {
 }
 
 impl<W: Write> Sink for StdSink<W> {
-    ghost held = { λ s. W.contents s.inner };
-
-    ghost faults = { λ s. s.faults };
+    ghost state = { λ s. record { held = W.contents s.inner; faults = s.faults } };
 
     // A writer that takes nothing of a piece that isn't empty has failed too.
     fn write(&mut self, piece: &[u8]) -> Result<usize, Failed> {

@@ -21,8 +21,7 @@ pub struct SureSource {
 impl SureSource {
     /// Gives these bytes in order.
     pub fn new(bytes: Vec<u8>) -> SureSource
-        ensures left { ⟦<SureSource as Source>⟧.left result ≡ Some bytes.items }
-        ensures reads { ⟦<SureSource as Source>⟧.reads result ≡ 0 }
+        ensures { ⟦<SureSource as Source>⟧.state result ≡ record { left = Some bytes.items; faults = 0; reads = 0 } }
     {
         SureSource {
             unread: Unread::new(bytes),
@@ -32,11 +31,7 @@ impl SureSource {
 }
 
 impl Source for SureSource {
-    ghost left = { λ s. Some s.unread };
-
-    ghost faults = { λ _. 0 };
-
-    ghost reads = { λ s. s.reads };
+    ghost state = { λ s. record { left = Some s.unread; faults = 0; reads = s.reads } };
 
     fn read(&mut self, into: &mut [u8]) -> Result<usize, Failed> {
         self.reads = self.reads.saturating_add(1);
@@ -51,16 +46,14 @@ pub struct SureSink;
 impl SureSink {
     /// A sink that keeps nothing.
     pub fn new() -> SureSink
-        ensures { ⟦<SureSink as Sink>⟧.held result ≡ None }
+        ensures { ⟦<SureSink as Sink>⟧.state result ≡ record { held = None; faults = 0 } }
     {
         SureSink
     }
 }
 
 impl Sink for SureSink {
-    ghost held = { λ _. None };
-
-    ghost faults = { λ _. 0 };
+    ghost state = { λ _. record { held = None; faults = 0 } };
 
     fn write(&mut self, piece: &[u8]) -> Result<usize, Failed>
         ensures whole { result ≡ Ok (length piece.now) }

@@ -1,109 +1,88 @@
--- The words of a command, and what they ask for.
-use Rattle.std.specs.Prelude.{ℕ, ◌^◌, List, [], ◌∷◌, length, take, drop, true, false, ◌||◌, Option, Some, None, codes, nat_lt, if◌then◌else◌}
+-- The words of a command.
+use Rattle.std.specs.Prelude.{◌≡◌, ℕ, ◌^◌, Bool, true, false, List, [], ◌∷◌, ◌++◌, filter, length, take, drop, map, Option, Some, None, codes, nat_lt, if◌then◌else◌}
+use Rattle.std.specs.List.{filter_map, cons_option}
 use Rattle.std.specs.Str.{bytes_eq}
+use Rattle.std.specs.Option.{option_map}
 use Rattle.ink_base.specs.Lines.{Word}
 use Rattle.ink_base.specs.Numbers.{number_said}
-use Rattle.ink_report.specs.declared.flags.Flags.{Flags}
-use Rattle.ink_modes.specs.declared.asked.Mode.{Mode}
-use Rattle.ink_modes.specs.declared.asked.Mode.TheVariants as modes
-use Rattle.ink_modes.specs.declared.asked.Seed.TheVariants.{Unasked, Awaited, Given}
-use Rattle.ink_modes.specs.declared.asked.Asked.{Asked}
-use Rattle.ink_modes.specs.declared.command.Shown.{Shown}
+use Rattle.ink_modes.specs.declared.modes.Mode.{Mode}
+use Rattle.ink_modes.specs.declared.words.Piece.{Piece}
+use Rattle.ink_modes.specs.declared.words.Piece.TheVariants.{Named, Journal, Json, Bounds, Image, Seed}
 use Rattle.ink_modes.specs.declared.command.Command.{Command}
-use Rattle.ink_modes.specs.declared.command.Command.TheVariants as commands
+use Rattle.ink_modes.specs.Form.{IsAllowed}
+use Rattle.ink_modes.specs.modes.{form_of, mode_named}
 
--- the mode of this name
-abbrev pub mode_named : Word → Option Mode
-mode_named word =
-    if bytes_eq word (codes "run") then Some modes.Run
-    else (if bytes_eq word (codes "soak") then Some modes.Soak else (if bytes_eq word (codes "print") then Some modes.Print else None))
+-- the words in pieces: `--seed` and the word behind it are one, `--seed=N`
+abbrev pub pieces : List Word → List Word
+pieces [] = []
+pieces (word ∷ []) = word ∷ []
+pieces (word ∷ next ∷ rest) = if bytes_eq word (codes "--seed") then (codes "--seed=" ++ next) ∷ pieces rest else word ∷ pieces (next ∷ rest)
 
 -- the rest of a word with this beginning
 abbrev pub behind : Word → Word → Option Word
 behind start word = if bytes_eq (take (length start) word) start then Some (drop (length start) word) else None
 
--- a number of 1 to 10 digits below 2^32
+-- a number below 2^32
 abbrev pub below_32_bits : Option ℕ → Option ℕ
 below_32_bits None = None
 below_32_bits (Some n) = if nat_lt n (2 ^ 32) then Some n else None
 
+-- a number of 1 to 10 digits below 2^32
 abbrev pub seed_said : Word → Option ℕ
 seed_said word = below_32_bits (number_said word)
 
-abbrev pub nothing : Asked
-nothing = record { mode = None; journal = false; json = false; seed = Unasked }
+-- what a piece says that is no flag's word: a seed, or the name of a mode
+abbrev pub seed_or_mode : Option Word → Word → Option Piece
+seed_or_mode (Some digits) word = option_map Seed (seed_said digits)
+seed_or_mode None word = option_map Named (mode_named word)
 
--- with a flag, or the name of a mode, each at most once
-abbrev pub with_journal : Asked → Option Asked
-with_journal a = if a.journal then None else Some (record a { journal = true })
+-- what a piece says: the name of a mode, a flag, or a seed
+abbrev pub piece_said : Word → Option Piece
+piece_said word =
+    if bytes_eq word (codes "--journal") then Some Journal
+    else (if bytes_eq word (codes "--json") then Some Json
+    else (if bytes_eq word (codes "--bounds") then Some Bounds
+    else (if bytes_eq word (codes "--image") then Some Image
+    else seed_or_mode (behind (codes "--seed=") word) word)))
 
-abbrev pub with_json : Asked → Option Asked
-with_json a = if a.json then None else Some (record a { json = true })
+-- the mode that a piece names, the seed that it gives, and whether it is this flag
+abbrev pub named_in : Piece → Option Mode
+named_in (Named mode) = Some mode
+named_in _ = None
 
-abbrev pub with_mode : Asked → Option Mode → Option Asked
-with_mode a None = None
-with_mode a (Some mode) = elim a.mode [ None ↦ Some (record a { mode = Some mode }) | Some named ↦ None ]
+abbrev pub seed_in : Piece → Option ℕ
+seed_in (Seed number) = Some number
+seed_in _ = None
 
-abbrev pub with_number : Asked → Option ℕ → Option Asked
-with_number a None = None
-with_number a (Some number) = Some (record a { seed = Given number })
+abbrev pub is_journal : Piece → Bool
+is_journal Journal = true
+is_journal _ = false
 
--- `--seed`, whose number is the next word
-abbrev pub awaiting_seed : Asked → Option Asked
-awaiting_seed a = elim a.seed [ Unasked ↦ Some (record a { seed = Awaited }) | Awaited ↦ None | Given number ↦ None ]
+abbrev pub is_json : Piece → Bool
+is_json Json = true
+is_json _ = false
 
--- `--seed=N`
-abbrev pub with_seed : Asked → Word → Option Asked
-with_seed a digits = elim a.seed [ Unasked ↦ with_number a (seed_said digits) | Awaited ↦ None | Given number ↦ None ]
+abbrev pub is_bounds : Piece → Bool
+is_bounds Bounds = true
+is_bounds _ = false
 
-abbrev pub with_seed_or_mode : Asked → Word → Option Asked
-with_seed_or_mode a word = elim (behind (codes "--seed=") word) [ None ↦ with_mode a (mode_named word) | Some digits ↦ with_seed a digits ]
+abbrev pub is_image : Piece → Bool
+is_image Image = true
+is_image _ = false
 
-abbrev pub with_word : Asked → Word → Option Asked
-with_word a word =
-    if bytes_eq word (codes "--journal") then with_journal a
-    else (if bytes_eq word (codes "--json") then with_json a
-    else (if bytes_eq word (codes "--seed") then awaiting_seed a else with_seed_or_mode a word))
+-- the piece once, or not at all
+abbrev pub once : Bool → Piece → List Piece
+once given piece = if given then piece ∷ [] else []
 
--- with one more word; behind `--seed` it is the number
-abbrev pub asked_with : Asked → Word → Option Asked
-asked_with a word = elim a.seed [ Awaited ↦ with_number a (seed_said word) | Unasked ↦ with_word a word | Given number ↦ with_word a word ]
-
--- with words in any order
-abbrev pub asked_from : Asked → List Word → Option Asked
-asked_from a [] = Some a
-asked_from a (word ∷ words) = elim (asked_with a word) [ None ↦ None | Some next ↦ asked_from next words ]
-
-abbrev pub shown_by : Asked → Shown
-shown_by a = record { journal = a.journal; json = a.json }
-
--- the flags of a report, with the number of a generated job
-abbrev pub flags_of : Shown → Option ℕ → Flags
-flags_of shown seed = record { journal = shown.journal; json = shown.json; bounds = false; image = false; seed = seed }
-
--- `run` may show the journal and JSON
-abbrev pub run_by : Asked → Option Command
-run_by a = elim a.seed [ Unasked ↦ Some (commands.Run (shown_by a)) | Awaited ↦ None | Given number ↦ None ]
-
--- `soak` has a number, and may show both
-abbrev pub soak_by : Asked → Option Command
-soak_by a = elim a.seed [ Unasked ↦ None | Awaited ↦ None | Given number ↦ Some (commands.Soak number (shown_by a)) ]
-
--- `print` has no flag
-abbrev pub print_by : Asked → Option Command
-print_by a = if a.journal || a.json then None else elim a.seed [ Unasked ↦ Some commands.Print | Awaited ↦ None | Given number ↦ None ]
-
-abbrev pub command_named : Asked → Mode → Option Command
-command_named a modes.Run = run_by a
-command_named a modes.Soak = soak_by a
-command_named a modes.Print = print_by a
-
-abbrev pub command_in : Asked → Option Command
-command_in a = elim a.mode [ None ↦ None | Some mode ↦ command_named a mode ]
-
-abbrev pub command_from : Option Asked → Option Command
-command_from asked = elim asked [ None ↦ None | Some a ↦ command_in a ]
-
--- what the words of a command ask for; none where they are no command
-abbrev pub command_of : List Word → Option Command
-command_of words = command_from (asked_from nothing words)
+-- The words are the command's, in some order: each of their pieces says something; one names the command's mode; each flag that the command
+-- has is there once, and no other; and the mode allows them.
+pub record IsCommand (words : List Word) (command : Command) : Type 0 where
+  pub parts : List Piece
+  pub said : map piece_said (pieces words) ≡ map Some parts
+  pub mode : filter_map named_in parts ≡ command.mode ∷ []
+  pub seed : filter_map seed_in parts ≡ cons_option command.flags.seed []
+  pub journal : filter is_journal parts ≡ once command.flags.journal Journal
+  pub json : filter is_json parts ≡ once command.flags.json Json
+  pub bounds : filter is_bounds parts ≡ once command.flags.bounds Bounds
+  pub image : filter is_image parts ≡ once command.flags.image Image
+  pub allowed : IsAllowed (form_of command.mode).allowed command.flags

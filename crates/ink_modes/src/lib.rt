@@ -2,17 +2,18 @@
 //! told of it. [`board`] is the top call.
 #![tactic(auto)]
 
-mod asked;
 mod command;
 mod complaint;
 mod finish;
 mod making;
+mod modes;
 mod report;
 mod top;
 mod words;
 
-pub use command::{Command, Shown};
+pub use command::{Allowed, Command};
 pub use complaint::{Complaint, exit_code};
 pub use finish::{Finish, Record};
+pub use modes::Mode;
 pub use top::board;
 pub use words::command_of;

@@ -1,20 +1,18 @@
-//! From the text of a job to what a command makes of it.
+//! From what a command is given to what it makes.
 
 ghost use Rattle.std.specs.Prelude.{◌≡◌, ◌≤◌, length, Ok, IfOk, IfErr};
 ghost use Rattle.power_trace.specs.Parse.{job_at};
-ghost use Rattle.ink_report.specs.Conditions.{IsSupported};
-ghost use Rattle.ink_modes.specs.Run.{IsRunOf, run_text_of};
-ghost use Rattle.ink_modes.specs.Made.{IsMade, text_of};
-ghost use Rattle.ink_modes.specs.Answers.{StopsText};
+ghost use Rattle.ink_io.specs.Whole.{job_limit};
+ghost use Rattle.ink_modes.specs.Form.{IsAllowed};
+ghost use Rattle.ink_modes.specs.modes.{form_of};
+ghost use Rattle.ink_modes.specs.Made.{OfText, GaveJob, Makes};
+ghost use Rattle.ink_modes.specs.Answers.{StopsText, StopsReading, Stops};
 
 use crate::command::Command;
 use crate::finish::Record;
-use crate::report::report;
 use ink_base::{JobAnswer, NoMemory, Status};
-use ink_report::Flags;
-use kernel_core::{RunRecord, prepare};
-use power_trace::{Job, parse_job};
-use program_text::print_program;
+use ink_io::{ReadAnswer, Source, read_job};
+use power_trace::{Job, parse_job, soak_job};
 use std::alloc::Global;
 
 /// The record of a command, and its text.
@@ -24,9 +22,50 @@ pub struct Made {
     pub text: Vec<u8>,
 }
 
-/// The job of a text. Refused where the text has a fault, with the first one.
-pub fn job_of(alloc: Global, text: &[u8]) -> Result<Job, Status>
-    requires { length text.now ≤ 4194304 }
+/// What a command makes of its job.
+pub fn make<S: Source>(alloc: Global, command: Command, source: &mut S) -> Result<Made, Status>
+    requires { IsAllowed (form_of command.mode).allowed command.flags }
+    ensures record { IfOk result (λ made. Makes command (S.state source.old) (S.state source.new) made.record) }
+    ensures text { IfOk result (λ made. made.text.items ≡ (form_of command.mode).text command.flags made.record) }
+    ensures stops { IfErr result (Stops command.flags.seed (S.state source.old) (S.state source.new)) }
+{
+    let job = given_job(alloc, command.flags.seed, source)?;
+    match command.mode.make(alloc, command.flags, job) {
+        Ok(made) => Ok(made),
+        Err(NoMemory) => Err(Status::NoMemory),
+    }
+}
+
+// The job that is generated from a seed; with no seed, the one on the source.
+fn given_job<S: Source>(alloc: Global, seed: Option<u32>, source: &mut S) -> Result<Job, Status>
+    ensures job { IfOk result (GaveJob seed (S.state source.old) (S.state source.new)) }
+    ensures stops { IfErr result (Stops seed (S.state source.old) (S.state source.new)) }
+{
+    let Some(number) = seed else {
+        return job_on(alloc, source);
+    };
+    match soak_job(alloc, number) {
+        Ok(job) => Ok(job),
+        Err(NoMemory) => Err(Status::NoMemory),
+    }
+}
+
+// The job on the source.
+fn job_on<S: Source>(alloc: Global, source: &mut S) -> Result<Job, Status>
+    ensures job { IfOk result (λ job. OfText (S.state source.old) (S.state source.new) (λ text. job_at text ≡ Ok job)) }
+    ensures stops { IfErr result (StopsReading (S.state source.old) (S.state source.new)) }
+{
+    match read_job(alloc, source) {
+        Ok(text) => job_in(alloc, text.as_slice()),
+        Err(ReadAnswer::ReadFault) => Err(Status::ReadFault),
+        Err(ReadAnswer::TooLong) => Err(Status::TooLong),
+        Err(ReadAnswer::NoMemory) => Err(Status::NoMemory),
+    }
+}
+
+// The job of a text. Refused where the text has a fault, with the first one.
+fn job_in(alloc: Global, text: &[u8]) -> Result<Job, Status>
+    requires { length text.now ≤ job_limit }
     ensures job { IfOk result (λ job. job_at text.now ≡ Ok job) }
     ensures stops { IfErr result (StopsText text.now) }
 {
@@ -35,50 +74,4 @@ pub fn job_of(alloc: Global, text: &[u8]) -> Result<Job, Status>
         Err(JobAnswer::Fault(fault)) => Err(Status::Refused(fault)),
         Err(JobAnswer::NoMemory) => Err(Status::NoMemory),
     }
-}
-
-/// What a command makes of its job.
-pub fn make(alloc: Global, command: Command, job: Job) -> Result<Made, NoMemory>
-    ensures record { IfOk result (λ made. IsMade command job made.record) }
-    ensures text { IfOk result (λ made. made.text.items ≡ text_of command made.record) }
-{
-    match command {
-        Command::Run(shown) => run_job(alloc, shown.flags(None), job),
-        Command::Soak { number, shown } => run_job(alloc, shown.flags(Some(number)), job),
-        Command::Print => print_job(alloc, job),
-    }
-}
-
-// The record of the whole run of a job, and its text.
-fn run_job(alloc: Global, flags: Flags, job: Job) -> Result<Made, NoMemory>
-    requires { IsSupported flags }
-    ensures { IfOk result (λ made. (r : RunRecord) × (made.record ≡ Record.Run r) × IsRunOf job r × (made.text.items ≡ run_text_of r flags)) }
-{
-    let record = record_of(alloc, job)?;
-    let text = report(alloc, &record, flags)?;
-    Ok(Made {
-        record: Record::Run(record),
-        text,
-    })
-}
-
-// The record of the whole run of a job.
-fn record_of(alloc: Global, job: Job) -> Result<RunRecord, NoMemory>
-    ensures { IfOk result (IsRunOf job) }
-{
-    let mut core = prepare(alloc, job)?;
-    core.run();
-    Ok(core.into_record())
-}
-
-fn print_job(alloc: Global, job: Job) -> Result<Made, NoMemory>
-    ensures record { IfOk result (λ made. IsMade Command.Print job made.record) }
-    ensures text { IfOk result (λ made. made.text.items ≡ text_of Command.Print made.record) }
-{
-    let (program, _readings, _charges) = job.into_parts();
-    let text = print_program(alloc, &program)?;
-    Ok(Made {
-        record: Record::Print(program),
-        text,
-    })
 }

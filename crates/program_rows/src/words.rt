@@ -2,7 +2,8 @@
 
 use crate::fixtures::words_of;
 use clap::{Arg, ArgAction, ArgMatches};
-use ink_modes::{Command, Shown, command_of};
+use ink_modes::{Command, Mode, command_of};
+use ink_report::Flags;
 use std::alloc::{AllocError, Global};
 use std::test::Fail;
 
@@ -51,6 +52,30 @@ fn other_words_are_no_command(rt: HostRuntime) -> Result<(), Fail> {
     Ok(())
 }
 
+fn same_flags(one: Flags, other: Flags) -> bool {
+    let shown = one.journal == other.journal && one.json == other.json;
+    shown && one.bounds == other.bounds && one.image == other.image && one.seed == other.seed
+}
+
+fn same(one: Option<Command>, other: Option<Command>) -> bool {
+    match (one, other) {
+        (Some(one), Some(other)) => one.mode == other.mode && same_flags(one.flags, other.flags),
+        (None, None) => true,
+        _ => false,
+    }
+}
+
+// A command of a mode whose text may show the journal, and JSON.
+fn command(mode: Mode, seed: Option<u32>, journal: bool, json: bool) -> Option<Command> {
+    let flags = Flags {
+        journal,
+        json,
+        seed,
+        ..Flags::none()
+    };
+    Some(Command { mode, flags })
+}
+
 fn are_soak(
     alloc: Global,
     words: &[&str],
@@ -58,12 +83,18 @@ fn are_soak(
     journal: bool,
     json: bool,
 ) -> Result<bool, AllocError> {
-    let shown = Shown { journal, json };
-    Ok(command_in(alloc, words)? == Some(Command::Soak { number, shown }))
+    let soak = command(Mode::Soak, Some(number), journal, json);
+    Ok(same(command_in(alloc, words)?, soak))
 }
 
 fn are_run(alloc: Global, words: &[&str], journal: bool, json: bool) -> Result<bool, AllocError> {
-    Ok(command_in(alloc, words)? == Some(Command::Run(Shown { journal, json })))
+    let run = command(Mode::Run, None, journal, json);
+    Ok(same(command_in(alloc, words)?, run))
+}
+
+fn are_print(alloc: Global, words: &[&str]) -> Result<bool, AllocError> {
+    let print = command(Mode::Print, None, false, false);
+    Ok(same(command_in(alloc, words)?, print))
 }
 
 #[test]
@@ -82,7 +113,7 @@ fn words_stand_in_any_order(rt: HostRuntime) -> Result<(), Fail> {
     let words = ["--seed", "0000000007", "--journal", "soak", "--json"];
     assert!(rt; are_soak(alloc, &words, 7, true, true)?);
     assert!(rt; are_run(alloc, &["--json", "run", "--journal"], true, true)?);
-    assert!(rt; command_in(alloc, &["print"])? == Some(Command::Print));
+    assert!(rt; are_print(alloc, &["print"])?);
     Ok(())
 }
 
@@ -112,14 +143,12 @@ fn matches_of<'a>(alloc: Global, words: &'a [&'a str]) -> Result<ArgMatches<'a>,
 
 // The command that those matches ask for.
 fn command_of_matches(matches: &ArgMatches<'_>) -> Option<Command> {
-    let shown = Shown {
-        journal: matches.get_flag("journal"),
-        json: matches.get_flag("json"),
-    };
+    let journal = matches.get_flag("journal");
+    let json = matches.get_flag("json");
     match (matches.get_str("mode"), matches.get_one::<u32>("seed")) {
-        (Some("run"), None) => Some(Command::Run(shown)),
-        (Some("print"), None) => Some(Command::Print),
-        (Some("soak"), Some(number)) => Some(Command::Soak { number, shown }),
+        (Some("run"), None) => command(Mode::Run, None, journal, json),
+        (Some("print"), None) => command(Mode::Print, None, journal, json),
+        (Some("soak"), seed) => command(Mode::Soak, seed, journal, json),
         _ => None,
     }
 }
@@ -132,7 +161,7 @@ fn command_by_clap(alloc: Global, line: &[&str]) -> Result<Option<Command>, Fail
 // Both read the same command from the words behind the first.
 fn are_same(alloc: Global, line: &[&str]) -> Result<bool, Fail> {
     let command = command_in(alloc, line.get(1..).unwrap_or(&[]))?;
-    Ok(command.is_some() && command == command_by_clap(alloc, line)?)
+    Ok(command.is_some() && same(command, command_by_clap(alloc, line)?))
 }
 
 const LINES: &[&[&str]] = &[

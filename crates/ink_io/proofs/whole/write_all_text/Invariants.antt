@@ -1,12 +1,11 @@
-use Rattle.std.proofs.Common.{◌≡◌, ◌-◌, ◌≤◌, length, take}
-use Rattle.std.specs.Io.KnownBytes.{Appends}
+use Rattle.std.proofs.Common.{◌-◌, ◌≤◌, length, take}
+use Rattle.ink_io.specs.Whole.{WroteText}
 use Rattle.ink_io.proofs.whole.write_all_text.Given as goal
 
 abbrev pub invariant-loop-at : goal.invariant-loop-at
 invariant-loop-at g l =
     (l.at ≤ length l.text)
-    × Appends (g.K.Sink.held l.fn.sink) (g.K.Sink.held l.sink) (take l.at l.text)
-    × (g.K.Sink.faults l.sink ≡ g.K.Sink.faults l.fn.sink)
+    × WroteText (g.K.Sink.state l.fn.sink) (g.K.Sink.state l.sink) (take l.at l.text)
 
 abbrev pub decreases-loop-at : goal.decreases-loop-at
 decreases-loop-at g l = length l.text - l.at

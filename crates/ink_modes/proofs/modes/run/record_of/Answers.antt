@@ -4,7 +4,7 @@ use Rattle.kernel_core.specs.Listed.{moves}
 use Rattle.kernel_core.specs.Core.{setup_of}
 use Rattle.ink_modes.specs.Run.{board_run}
 use Rattle.ink_modes.proofs.Runs.{run_of}
-use Rattle.ink_modes.proofs.making.record_of.Goals as goal
+use Rattle.ink_modes.proofs.modes.run.record_of.Goals as goal
 
 pub returns : goal.returns
 returns c =
