@@ -1,4 +1,3 @@
-mod Common
 pub mod Count
 pub mod Walk
 pub mod Loop

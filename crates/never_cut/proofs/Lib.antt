@@ -1,4 +1,3 @@
-mod Common
 pub mod Threads
 pub mod Privates
 pub mod Blocks

@@ -1,4 +1,3 @@
-mod Common
 pub mod Orders
 pub mod Looked
 pub mod Searches

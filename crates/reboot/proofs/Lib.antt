@@ -1,4 +1,3 @@
-mod Common
 pub mod Boots
 pub mod Drifts
 pub mod Ends

@@ -1,4 +1,3 @@
-mod Common
 pub mod Numbers
 pub mod Sources
 pub mod Drifts

@@ -1,4 +1,3 @@
-mod Common
 pub mod Codes
 mod Sends
 mod Fitting

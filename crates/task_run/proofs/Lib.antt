@@ -1,4 +1,3 @@
-mod Common
 pub mod Accesses
 pub mod Acts
 pub mod Begins

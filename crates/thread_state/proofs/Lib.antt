@@ -1,4 +1,3 @@
-mod Common
 pub mod Pages
 pub mod Masks
 pub mod Calls
