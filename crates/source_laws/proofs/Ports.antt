@@ -4,7 +4,7 @@ use Rattle.push_core.specs.Table as table
 use Rattle.push_core.specs.Table.{access_of}
 use Rattle.push_core.specs.declared.row.Row.{Row}
 use Rattle.push_core.specs.declared.stage.Stage.{Stage}
-use Rattle.push_core.specs.declared.stage.Stage.TheVariants.{LoadSrc, LoadSlots, LoadAck, LoadTail, LoadSlot, Publish, MoveTail, HelpTail, StoreSkip, StoreAccepted}
+use Rattle.push_core.specs.declared.stage.Stage.TheVariants.{LoadSlots, LoadSlot, Publish}
 use Rattle.fram_words.specs.declared.access.Access.TheVariants as fram
 use Rattle.fram_words.specs.Accesses.{at_address}
 use Rattle.fram_words.specs.Places as places

@@ -1,5 +1,5 @@
 -- The masks of a block have a bit for each page.
-use Rattle.std.proofs.Common.{◌≡◌, ℕ, ◌*◌, ◌%◌, ◌^◌, ◌<◌, bit_or, arith, inl, inr}
+use Rattle.std.proofs.Common.{ℕ, ◌^◌, ◌<◌, bit_or, inl, inr}
 use Rattle.std.specs.Prelude.{Some, None, ◌==◌}
 use Rattle.std.proofs.lemmas.Bool.{cases_Bool}
 use Rattle.std.proofs.lemmas.Nat.{or_lt}

@@ -4,7 +4,7 @@ use Rattle.std.specs.Int.{bit_at}
 use Rattle.std.specs.Prelude.{◌==◌}
 use Rattle.std.proofs.lemmas.Bool.{eqb-true, eqb-false, eq-eqb, ne_eqb, cases_Bool, cases_eq}
 use Rattle.std.proofs.lemmas.Nat.Bits.{bit_at_xor, bit_at_or, bit_at-pow_same, bit_at-pow_other, bit_at-lt, bit_at-zero}
-use Rattle.fram_words.specs.Places.{Place, Code, Commit, Page, Log, Ring, Tail, Slot, Ack, Clock, Src, Memory, store, perform, answer}
+use Rattle.fram_words.specs.Places.{Place, Commit, Page, Memory, store, perform, answer}
 use Rattle.fram_words.proofs.Frames.{store-same, store-other}
 use Rattle.thread_state.specs.Pages.{place_in, word_in, committed, Copying, Loading, Storing, Buffer, no_writes, is_dirty, working_mask, working, copy_access, after_copy, AgreeBelow, IsCopied, put, IsOutside, IsUnderWay}
 
