@@ -2,7 +2,7 @@
 use Rattle.std.proofs.Common.{◌≡◌, inl, inr, ℕ, zero, suc, ◌+◌, ◌%◌, ◌<◌, ◌≤◌, Bool, [], ◌∷◌, length, drop, sym, ap, ◌∙◌, subst, arith, length-append, length-drop, one-add, get_or-drop}
 use Rattle.std.proofs.lemmas.List.{get_or_append_left}
 use Rattle.push_core.specs.declared.stage.Stage.{Stage}
-use Rattle.push_core.specs.declared.stage.Stage.TheVariants.{LoadSrc, LoadSlots, LoadAck, LoadTail, LoadSlot, Publish, MoveTail, HelpTail, StoreSkip, StoreAccepted}
+use Rattle.push_core.specs.declared.stage.Stage.TheVariants.{LoadSlots, LoadAck, LoadSlot, Publish, MoveTail, HelpTail}
 use Rattle.ink_base.specs.declared.event.Event.{Event}
 use Rattle.push_core.specs.Queue.{Queue, published, event_at, no_event, IsNumber, IsFinishing, KeepsNumbers, with_event, without_first, with_finished}
 use Rattle.push_core.proofs.Events.{number_source, number_count, finishing_some, finishing_source, finishing_count}

@@ -1,7 +1,8 @@
 -- A put of a word is the calls that make its page ready, copy it and write.
-use Rattle.std.proofs.Common.{◌≡◌, ℕ, zero, suc, ◌+◌, ◌-◌, ◌*◌, ◌/◌, ◌^◌, ◌<◌, Bool, true, false, cond, bit_or, List, [], ◌∷◌, ◌++◌, arith, refl, ap, ◌∙◌, sym, subst, inl, inr, Option, Some, None, ◌==◌, not, replicate, IsNone, eqb-true, eq-eqb}
+use Rattle.std.proofs.Common.{◌≡◌, ℕ, zero, suc, ◌+◌, ◌/◌, ◌^◌, ◌<◌, Bool, true, false, cond, bit_or, List, [], ◌∷◌, ◌++◌, arith, refl, ap, ◌∙◌, sym, subst, inl, inr}
+use Rattle.std.specs.Prelude.{Option, Some, None, ◌==◌, not, replicate, IsNone}
 use Rattle.std.specs.Int.{bit_at}
-use Rattle.std.proofs.lemmas.Bool.{eqb-false, cases_Bool}
+use Rattle.std.proofs.lemmas.Bool.{eqb-true, eqb-false, eq-eqb, cases_Bool}
 use Rattle.fram_words.specs.Places.{Commit, Memory, perform, answer}
 use Rattle.thread_state.specs.declared.block.Block.{Block}
 use Rattle.thread_state.specs.Pages.{Buffer, Copying, Loading, Storing, committed, is_dirty, copy_access, write_access, put_access, after_copy, put}

@@ -1,5 +1,5 @@
 -- A thread's block of words on pages of eight words, each in two copies. A mask names one copy of each page.
-use Rattle.std.specs.Prelude.{◌≡◌, ◌≢◌, ◌⊎◌, ℕ, ◌+◌, ◌-◌, ◌/◌, ◌%◌, ◌^◌, ◌<◌, ◌==◌, Bool, cond, bit_or, bit_xor}
+use Rattle.std.specs.Prelude.{◌≡◌, ◌≢◌, ◌⊎◌, ℕ, ◌+◌, ◌-◌, ◌/◌, ◌^◌, ◌<◌, ◌==◌, Bool, cond, bit_or, bit_xor}
 use Rattle.std.specs.Int.{bit_at}
 use Rattle.fram_words.specs.Places.{Place, Commit, Page, Memory, Access, Load, Store}
 pub use Rattle.thread_state.specs.Committed.{place_in, word_in, committed}

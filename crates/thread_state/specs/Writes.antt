@@ -1,10 +1,10 @@
 -- The machine of a thread's writes as contracts see it.
-use Rattle.std.specs.Prelude.{◌≡◌, ℕ, ◌/◌, ◌<◌, cond, IsTrue, Option, Some, None, IsNone}
+use Rattle.std.specs.Prelude.{ℕ, ◌/◌, ◌<◌, cond, IsTrue, Option, Some, None, IsNone}
 use Rattle.std.specs.Option.{option_map}
 use Rattle.fram_words.specs.declared.access.Access as declared
 use Rattle.thread_state.specs.declared.block.Block.{Block}
 use Rattle.thread_state.specs.Blocks.{IsPlaced, IsCommitWord, pages_of, at_block}
-use Rattle.thread_state.specs.Pages.{Buffer, Copying, Loading, Storing, no_writes, is_dirty, copy_access, after_copy, get_access, write_access, commit_access}
+use Rattle.thread_state.specs.Pages.{Buffer, no_writes, is_dirty, copy_access, after_copy, get_access, write_access, commit_access}
 use Rattle.thread_state.specs.Buffers.{goes_on}
 
 -- the block, the registers of its writes, and the page that is being copied, if one is
