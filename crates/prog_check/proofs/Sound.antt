@@ -1,5 +1,5 @@
 -- A program without a fault is one that is accepted.
-use Rattle.std.proofs.Common.{◌≡◌, ◌≢◌, ℕ, ◌<◌, true, false, ◌||◌, eqb, length, take, None, sym, ◌∙◌}
+use Rattle.std.proofs.Common.{◌≡◌, ◌≢◌, ℕ, ◌<◌, ◌≤◌, true, false, ◌||◌, eqb, length, take, None, sym, ◌∙◌}
 use Rattle.std.specs.Str.{bytes_eq}
 use Rattle.std.proofs.lemmas.Bool.{or_parts, not-true, leb-true, ltb-true, eq-eqb, false≢true}
 use Rattle.ink_base.specs.declared.limits.TheConstants as limits
