@@ -109,10 +109,10 @@ rest_of count header x = draft_end count x.0 x.1 >> (λ closed. program_of x.0 >
 late_lost : {A : Type 0} (n : ℕ) (r : Result A JobFault) → IsLost r → IsLate n r
 late_lost n r lost = λ e ne is. absurd (ne (lost e is))
 
-late_program : (n header : ℕ) (d : Draft) (ls : List Line) → IsLate n (program_of d >> (λ program. Ok (program, lines_of_draft header d, ls)))
+late_program : (n header : ℕ) (d : Draft) (ls : List Line) → IsLate {A = Program × Lines × List Line} n (program_of d >> (λ program. Ok (program, lines_of_draft header d, ls)))
 late_program n header d ls = late_lost n _ (lost_then (program_of d) _ (lost_program d) (λ program. lost_ok _))
 
-late_missing : {A : Type 0} (n count : ℕ) (ls : List Line) → AreBehind n ls → n ≤ count → IsLate {A} n (Err (missing count ls))
+late_missing : {A : Type 0} (n count : ℕ) (ls : List Line) → AreBehind n ls → n ≤ count → IsLate {A = A} n (Err (missing count ls))
 late_missing n count [] behind le = λ e ne is. let same : missing count [] ≡ e = cc is in omega (arith, le, ap (λ (z : JobFault). z.line) same)
 late_missing n count (line ∷ rest) behind le = λ e ne is. let same : missing count (line ∷ rest) ≡ e = cc is in omega (arith, behind.0, ap (λ (z : JobFault). z.line) same)
 
@@ -124,7 +124,7 @@ late_header n count expected (line ∷ rest) behind le = late_line n line.number
 late_end : (n count : ℕ) (d : Draft) (ls : List Line) → AreBehind n ls → n ≤ count → IsLate n (draft_end count d ls)
 unfolding draft_end
 late_end n count d ls behind le = elim (cases_Bool (is_some d.current)) [
-  | inl open ↦ rw open (late_missing n count ls behind le)
+  | inl unclosed ↦ rw unclosed (late_missing n count ls behind le)
   | inr closed ↦ rw closed (late_header n count (codes "[sensors]") ls behind le)
 ]
 

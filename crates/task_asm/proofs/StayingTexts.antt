@@ -1,7 +1,7 @@
 -- A fault of the section stays where a text goes on otherwise.
 use Rattle.std.proofs.Common.{◌≡◌, ◌≢◌, ℕ, zero, suc, ◌+◌, ◌<◌, ◌≤◌, List, [], ◌∷◌, ◌++◌, length, take, drop, Err, refl, sym, ap, ◌∙◌, inl, inr, arith}
 use Rattle.std.proofs.lemmas.Bool.{cases_Bool, cases_lt}
-use Rattle.std.proofs.lemmas.List.{take-append-drop, length-take, take-length, length-append}
+use Rattle.std.proofs.lemmas.List.{take-append-drop, length-take, length-take-le}
 use Rattle.std.proofs.lemmas.List.Elements.{filter-append}
 use Rattle.ink_base.specs.Lines.{Line, words, before_comment, lines, numbered, lines_of}
 use Rattle.ink_base.specs.TokenLines.{has_words, with_words}
@@ -11,7 +11,7 @@ use Rattle.task_asm.specs.FaultLaw.{AgreeUpTo, FaultsStay}
 use Rattle.task_asm.proofs.Staying.{AreBehind, kept_program}
 
 numbered_append : (n : ℕ) (xs ys : List (List ℕ)) → numbered n (xs ++ ys) ≡ numbered n xs ++ numbered (n + length xs) ys
-numbered_append n [] ys = refl
+numbered_append n [] ys = let at : n ≡ n + 0 = omega arith in ap (λ (k : ℕ). numbered k ys) at
 numbered_append n (x ∷ xs) ys =
     let at : n + 1 + length xs ≡ n + length (x ∷ xs) = omega arith in
     ap (λ (ls : List Line). record { number = n; words = words (before_comment x) } ∷ ls) (numbered_append (n + 1) xs ys ∙ ap (λ (k : ℕ). numbered (n + 1) xs ++ numbered k ys) at)
@@ -47,7 +47,7 @@ faults_stay text other fault ne agree is = elim (cases_lt (length (lines text)) 
       ap (λ (ls : List (List ℕ)). program_in (length ls) (with_words (numbered 1 ls))) (sym same) ∙ is
   | inr long ↦
       let n = fault.line in
-      let size : length (take n (lines text)) ≡ n = length-take n (lines text) ∙ omega arith in
+      let size : length (take n (lines text)) ≡ n = length-take-le n (lines text) long in
       let behind : AreBehind n (behind_lines n (lines text)) = are_behind n (1 + length (take n (lines text))) (drop n (lines text)) (omega (arith, size)) in
       let front = with_words (numbered 1 (take n (lines text))) in
       let otherwise : with_words (lines_of other) ≡ front ++ behind_lines n (lines other) = cut_at n (lines other) ∙ ap (λ (ls : List (List ℕ)). with_words (numbered 1 ls) ++ behind_lines n (lines other)) (sym agree) in
