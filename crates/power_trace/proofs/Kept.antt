@@ -70,7 +70,7 @@ set_keeps sources readings i values next are right same =
     } in
     subst (AreSensors sources) same kept
 
-line_keeps : (sources : ℕ) (readings : List (List ℕ)) (number : ℕ) (ws : List Word) (next : List (List ℕ)) → AreSensors sources readings → sensor_line readings ws ≡ Ok next → AreSensors sources next
+line_keeps : (sources : ℕ) (readings : List (List ℕ)) (number : ℕ) (ws : List Word) (next : List (List ℕ)) → AreSensors sources readings → sensor_line readings number ws ≡ Ok next → AreSensors sources next
 unfolding sensor_line
 line_keeps sources readings number ws next are h =
     let store : ℕ → List ℕ → Result (List (List ℕ)) Cause = λ i values. Ok (set readings i values) in

@@ -13,10 +13,10 @@ use Rattle.ink_base.specs.declared.limits.TheConstants as limits
 use Rattle.ink_base.specs.declared.actor.Actor.{Actor}
 use Rattle.ink_base.specs.declared.actor.Actor.TheVariants.{Kernel, Source, Clock}
 use Rattle.ink_base.specs.declared.fault.Cause.{Cause}
-use Rattle.ink_base.specs.declared.fault.Cause.TheVariants.{OverLimit, Missing, BadSection}
+use Rattle.ink_base.specs.declared.fault.Cause.TheVariants.{OverLimit}
 use Rattle.ink_base.specs.declared.fault.JobFault.{JobFault}
 use Rattle.ink_base.specs.Gives.{◌>>=◌, ◌>>◌}
-use Rattle.ink_base.specs.Checks.{number_of, word_in, fixed_in, number_in, end_in}
+use Rattle.ink_base.specs.Checks.{number_of, word_in, fixed_in, number_in}
 use Rattle.job_parts.specs.declared.item.Item.{Item}
 use Rattle.job_parts.specs.declared.charge.Charge.{Charge}
 use Rattle.power_trace.specs.declared.charges.Charges.{Charges}
