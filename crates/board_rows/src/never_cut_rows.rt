@@ -2,6 +2,7 @@
 
 ghost use Rattle.std.specs.Prelude.{◌≤◌, ◌<◌, ◌^◌, length};
 ghost use Rattle.never_cut.specs.Within.{AreReadings};
+ghost use Rattle.prog_check.specs.Accepted.{IsAccepted};
 
 use crate::fixtures::{SUMMING, job};
 use ink_base::{Entry, NoMemory, Output, SourceId, ThreadId};
@@ -103,6 +104,7 @@ fn after_first(
     readings: &[Items<u32>],
     entries: &[Entry],
 ) -> Result<Model, ReplayFault>
+    requires accepted { IsAccepted program.now }
     requires readings { AreReadings program.now readings.now }
     requires few_entries { length entries.now < 2 ^ 32 }
 {
