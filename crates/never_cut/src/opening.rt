@@ -16,8 +16,8 @@ use std::alloc::Global;
 use task_isa::{PipeDef, Program, ThreadDef, TimerDef};
 
 impl Replaying {
-    /// The state at the start.
-    pub(crate) fn open(alloc: Global, program: &Program) -> Result<Replaying, NoMemory>
+    /// A replay that begins at the state of the first image.
+    pub fn open(alloc: Global, program: &Program) -> Result<Replaying, NoMemory>
         ensures { IfOk result (λ r. model_of r ≡ open_model program.now) }
     {
         Ok(Replaying {
