@@ -1,3 +1,4 @@
-pub mod Names
+pub mod AsciiNames
 pub mod Values
+pub mod Counted
 pub mod Reportable

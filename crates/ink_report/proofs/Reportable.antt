@@ -1,5 +1,5 @@
 -- The state after a legal journal can be reported.
-use Rattle.std.proofs.Common.{◌≡◌, ℕ, zero, suc, ◌+◌, ◌<◌, Bool, true, false, if◌then◌else◌, List, [], ◌∷◌, length, Option, Some, None, ◌∙◌, arith, All, slice_index_or}
+use Rattle.std.proofs.Common.{◌≡◌, ℕ, zero, suc, ◌+◌, ◌<◌, Bool, true, false, if◌then◌else◌, List, [], ◌∷◌, length, Option, Some, None, ◌∙◌, arith, slice_index_or}
 use Rattle.std.proofs.lemmas.List.{length-set, length-map}
 use Rattle.std.proofs.lemmas.List.Elements.{All-nil, All-append}
 use Rattle.ink_base.specs.declared.event.Event.{Event}
@@ -16,13 +16,7 @@ use Rattle.never_cut.specs.Pending.{pending}
 use Rattle.never_cut.specs.Commit.{stamped, thread_after, with_first, expired_after, consumed, ended, expired, is_expired, end_at, committed, commit}
 use Rattle.never_cut.specs.Entries.{Readings, Legal, effect, pushed, released, next_event, fed_by, with_accepted, with_refused, with_skipped}
 use Rattle.never_cut.specs.Journal.{after, IsLegal}
-use Rattle.ink_report.specs.Conditions.{NamesPart, IsReportable}
-
--- the parts of a state that a text shows
-pub record HasParts (program : Program) (m : Model) : Type 0 where
-  threads : length m.threads ≡ length program.threads
-  sources : length m.sources ≡ length program.sources
-  outputs : All (λ (o : Output). o.thread.0 < length program.threads) m.outputs
+use Rattle.ink_report.specs.Conditions.{NamesPart, NamesThread, FitsProgram, IsReportable}
 
 -- what a task puts out names its thread
 stamped_known : (stamp t n : ℕ) (outs : List ℕ) → t < n → (k : ℕ) (d : Output) → k < length (stamped stamp t outs) → (slice_index_or (stamped stamp t outs) k d).thread.0 < n
@@ -30,19 +24,19 @@ stamped_known stamp t n [] known k d lt = absurd (omega arith)
 stamped_known stamp t n (x ∷ outs) known zero d lt = known
 stamped_known stamp t n (x ∷ outs) known (suc k) d lt = stamped_known stamp t n outs known k d (omega arith)
 
-consumed_parts : (program : Program) (m : Model) (running : Bool) (e : Event) → HasParts program m → HasParts program (consumed running e m)
+consumed_parts : (program : Program) (m : Model) (running : Bool) (e : Event) → FitsProgram program m → FitsProgram program (consumed running e m)
 consumed_parts program m true e h = h
 consumed_parts program m false e h = record { threads = h.threads; sources = h.sources; outputs = h.outputs }
 
-ended_parts : (program : Program) (m : Model) (t : ℕ) (e : Event) (time : ℕ) (end : TaskEnd) → t < length program.threads → HasParts program m → HasParts program (ended t e time end m)
+ended_parts : (program : Program) (m : Model) (t : ℕ) (e : Event) (time : ℕ) (end : TaskEnd) → t < length program.threads → FitsProgram program m → FitsProgram program (ended t e time end m)
 ended_parts program m t e time end known h = record {
   threads = length-set m.threads t (thread_after e end.outcome end.state (with_first time (thread_of m t))) ∙ h.threads;
   sources = h.sources;
-  outputs = All-append (λ (o : Output). o.thread.0 < length program.threads) m.outputs (stamped (m.commits + 1) t end.outs) h.outputs
+  outputs = All-append (NamesThread program) m.outputs (stamped (m.commits + 1) t end.outs) h.outputs
       (λ k d lt. stamped_known (m.commits + 1) t (length program.threads) end.outs known k d lt);
 }
 
-expired_parts : (program : Program) (m : Model) (t : ℕ) (e : Event) → HasParts program m → HasParts program (expired t e m)
+expired_parts : (program : Program) (m : Model) (t : ℕ) (e : Event) → FitsProgram program m → FitsProgram program (expired t e m)
 expired_parts program m t e h = record {
   threads = length-set m.threads t (expired_after e (thread_of m t)) ∙ h.threads;
   sources = h.sources;
@@ -50,32 +44,32 @@ expired_parts program m t e h = record {
 }
 
 -- the count of commits and the scan are no part of it
-counted_parts : (program : Program) (m : Model) (commits : ℕ) → HasParts program m → HasParts program (record m { commits = commits; scan = None })
+counted_parts : (program : Program) (m : Model) (commits : ℕ) → FitsProgram program m → FitsProgram program (record m { commits = commits; scan = None })
 counted_parts program m commits h = record { threads = h.threads; sources = h.sources; outputs = h.outputs }
 
-committed_parts : (program : Program) (m : Model) (t : ℕ) (e : Event) (time : ℕ) → t < length program.threads → HasParts program m → HasParts program (committed program t e time m)
+committed_parts : (program : Program) (m : Model) (t : ℕ) (e : Event) (time : ℕ) → t < length program.threads → FitsProgram program m → FitsProgram program (committed program t e time m)
 committed_parts program m t e time known h = by_expiry (is_expired program m t time)
   where
     by_expiry : (b : Bool) →
-        HasParts program (record (if b then expired t e m else ended t e time (end_at program m t e time) (consumed (is_running (thread_of m t)) e m)) { commits = m.commits + 1; scan = None })
+        FitsProgram program (record (if b then expired t e m else ended t e time (end_at program m t e time) (consumed (is_running (thread_of m t)) e m)) { commits = m.commits + 1; scan = None })
     by_expiry true = counted_parts program (expired t e m) (m.commits + 1) (expired_parts program m t e h)
     by_expiry false =
         counted_parts program (ended t e time (end_at program m t e time) (consumed (is_running (thread_of m t)) e m)) (m.commits + 1)
         (ended_parts program (consumed (is_running (thread_of m t)) e m) t e time (end_at program m t e time) known (consumed_parts program m (is_running (thread_of m t)) e h))
 
-commit_parts : (program : Program) (m : Model) (t : ℕ) → t < length program.threads → HasParts program m → HasParts program (commit program t m)
+commit_parts : (program : Program) (m : Model) (t : ℕ) → t < length program.threads → FitsProgram program m → FitsProgram program (commit program t m)
 commit_parts program m t known h = by_scan m.scan
   where
-    by_pending : (scan : ScanModel) (q : Option Event) → HasParts program (elim q [ None ↦ m | Some e ↦ committed program t e scan.time m ])
+    by_pending : (scan : ScanModel) (q : Option Event) → FitsProgram program (elim q [ None ↦ m | Some e ↦ committed program t e scan.time m ])
     by_pending scan None = h
     by_pending scan (Some e) = committed_parts program m t e scan.time known h
 
     by_scan : (o : Option ScanModel) →
-        HasParts program (elim o [ None ↦ m | Some scan ↦ elim (pending program m t) [ None ↦ m | Some e ↦ committed program t e scan.time m ] ])
+        FitsProgram program (elim o [ None ↦ m | Some scan ↦ elim (pending program m t) [ None ↦ m | Some e ↦ committed program t e scan.time m ] ])
     by_scan None = h
     by_scan (Some scan) = by_pending scan (pending program m t)
 
-effect_parts : (program : Program) (readings : Readings) (m : Model) (e : Entry) → Legal program readings m e → HasParts program m → HasParts program (effect program readings m e)
+effect_parts : (program : Program) (readings : Readings) (m : Model) (e : Entry) → Legal program readings m e → FitsProgram program m → FitsProgram program (effect program readings m e)
 effect_parts program readings m (Push i) legal h = record {
   threads = length-set m.threads (source_thread program i.0) (pushed (next_event readings m i.0) (fed_by program m i.0)) ∙ h.threads;
   sources = length-set m.sources i.0 (with_accepted (source_of m i.0)) ∙ h.sources;
@@ -101,17 +95,17 @@ effect_parts program readings m (Release t) legal h = record {
   outputs = h.outputs;
 }
 
-after_parts : (program : Program) (readings : Readings) (m : Model) (journal : List Entry) → IsLegal program readings m journal → HasParts program m →
-    HasParts program (after program readings m journal)
+after_parts : (program : Program) (readings : Readings) (m : Model) (journal : List Entry) → IsLegal program readings m journal → FitsProgram program m →
+    FitsProgram program (after program readings m journal)
 after_parts program readings m [] legal h = h
 after_parts program readings m (e ∷ journal) legal h =
     after_parts program readings (effect program readings m e) journal legal.1 (effect_parts program readings m e legal.0 h)
 
-pub open_parts : (program : Program) → HasParts program (open_model program)
+pub open_parts : (program : Program) → FitsProgram program (open_model program)
 open_parts program = record {
   threads = length-map program.threads open_thread;
   sources = length-map program.sources open_source;
-  outputs = All-nil (λ (o : Output). o.thread.0 < length program.threads);
+  outputs = All-nil (NamesThread program);
 }
 
 -- a legal entry names parts of the program
@@ -133,13 +127,10 @@ journal_names program readings m (e ∷ journal) legal (suc k) d lt =
     journal_names program readings (effect program readings m e) journal legal.1 k d (omega arith)
 
 -- so a run's text can be asked for wherever its journal is legal
-pub legal_reportable : (program : Program) (readings : Readings) (first : Model) (journal : List Entry) → HasParts program first → IsLegal program readings first journal →
+pub legal_reportable : (program : Program) (readings : Readings) (first : Model) (journal : List Entry) → FitsProgram program first → IsLegal program readings first journal →
     IsReportable program (after program readings first journal) journal
 legal_reportable program readings first journal start legal =
-    let parts = after_parts program readings first journal legal start in
     record {
-      threads = parts.threads;
-      sources = parts.sources;
-      outputs = parts.outputs;
+      state = after_parts program readings first journal legal start;
       entries = λ k d lt. journal_names program readings first journal legal k d lt;
     }

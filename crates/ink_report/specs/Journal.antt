@@ -26,9 +26,6 @@ entry_line program (Look thread) = thread_entry program (codes "Look") thread
 entry_line program (Commit thread) = thread_entry program (codes "Commit") thread
 entry_line program (Release thread) = thread_entry program (codes "Release") thread
 
+-- a line for each entry, in order
 abbrev pub entry_lines : Program → List Entry → List ℕ
 entry_lines program journal = flat_map (entry_line program) journal
-
--- [journal], and a line for each entry in order
-abbrev pub journal_lines : Program → List Entry → List ℕ
-journal_lines program journal = codes "[journal]\n" ++ entry_lines program journal

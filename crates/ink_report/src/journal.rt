@@ -1,24 +1,16 @@
-//! The lines of the journal.
+//! The lines of entries.
 
 ghost use Rattle.std.specs.Prelude.{◌≡◌, ◌++◌, ◌<◌, codes, decimal, All, length, OnOk};
 ghost use Rattle.ink_report.specs.Conditions.{NamesPart};
-ghost use Rattle.ink_report.specs.Journal.{source_entry, thread_entry, entry_line, entry_lines, journal_lines};
+ghost use Rattle.ink_report.specs.Journal.{source_entry, thread_entry, entry_line, entry_lines};
 
+use crate::names::name_of;
 use crate::numbers::put_count;
-use crate::threads::name_of;
 use ink_base::{Entry, NoMemory, SourceId, ThreadId};
 use task_isa::Program;
 
-// Appends the line [journal], and a line for each entry.
-pub fn put_journal(out: &mut Vec<u8>, program: &Program, entries: &[Entry]) -> Result<(), NoMemory>
-    requires { All (NamesPart program.now) entries.now }
-    ensures { OnOk result (out.new.items ≡ out.old.items ++ journal_lines program.now entries.now) }
-{
-    out.extend_from_slice(b"[journal]\n")?;
-    put_entries(out, program, entries)
-}
-
-fn put_entries(out: &mut Vec<u8>, program: &Program, entries: &[Entry]) -> Result<(), NoMemory>
+/// Appends a line for each entry. The entries name threads and sources of the program. Out of memory may be answered at any time.
+pub fn put_entries(out: &mut Vec<u8>, program: &Program, entries: &[Entry]) -> Result<(), NoMemory>
     requires { All (NamesPart program.now) entries.now }
     ensures { OnOk result (out.new.items ≡ out.old.items ++ entry_lines program.now entries.now) }
 {
@@ -79,7 +71,7 @@ fn put_thread_entry(
 {
     out.extend_from_slice(kind)?;
     out.push(b' ')?;
-    out.extend_from_slice(name_of(program, thread.0 as usize))?;
+    out.extend_from_slice(name_of(program, thread))?;
     out.push(b'\n')?;
     Ok(())
 }

@@ -4,11 +4,15 @@
 mod flags;
 mod journal;
 mod json;
+mod lines;
+mod names;
 mod numbers;
-mod outputs;
 mod report;
-mod sources;
-mod threads;
+mod summary;
 
 pub use flags::Flags;
-pub use report::run_text;
+pub use journal::put_entries;
+pub use json::put_json;
+pub use lines::put_summary;
+pub use report::{put_head, run_text};
+pub use summary::{SourceSummary, Summary, ThreadSummary};

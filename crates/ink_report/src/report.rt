@@ -1,20 +1,16 @@
 //! The text of a run.
 
-ghost use Rattle.std.specs.Prelude.{◌≡◌, ◌++◌, ◌<◌, All, length, IfOk, OnOk};
-ghost use Rattle.ink_base.specs.declared.output.Output.{Output};
-ghost use Rattle.ink_report.specs.Conditions.{NamesPart, IsReportable, IsSupported};
-ghost use Rattle.ink_report.specs.Lines.{totals_line, summary_lines};
-ghost use Rattle.ink_report.specs.Report.{outputs_part, summary_part, journal_part};
+ghost use Rattle.std.specs.Prelude.{◌≡◌, ◌++◌, All, IfOk, OnOk};
+ghost use Rattle.ink_report.specs.Conditions.{NamesThread, NamesPart, IsReportable, IsSupported};
+ghost use Rattle.ink_report.specs.Report.{head, outputs_part, summary_part, header_part, entries_part};
 ghost use Rattle.ink_report.specs.Report.{run_text as text_of_run};
 
 use crate::flags::Flags;
-use crate::journal::put_journal;
+use crate::journal::put_entries;
 use crate::json::put_json;
-use crate::numbers::put_count;
-use crate::outputs::put_outputs;
-use crate::sources::put_sources;
-use crate::threads::put_threads;
-use ink_base::{Entry, NoMemory};
+use crate::lines::{put_outputs, put_summary};
+use crate::summary::Summary;
+use ink_base::{Entry, NoMemory, Output};
 use never_cut::Model;
 use prog_check::Accepted;
 use std::alloc::Global;
@@ -37,84 +33,79 @@ pub fn run_text(
     requires reportable { IsReportable program.now model.now entries.now }
     ensures { IfOk result (λ text. text.items ≡ text_of_run program.now model.now entries.now charges flags) }
 {
+    let mut summary = Summary::begin(alloc, program, model, charges)?;
+    summary.count(entries);
     let mut out = Vec::new(alloc);
     let program = program.program();
-    put_outputs_part(&mut out, program, model, flags)?;
-    put_summary_part(&mut out, program, model, entries, charges, flags)?;
-    put_journal_part(&mut out, program, entries, flags)?;
+    put_head(&mut out, program, model.outputs.as_slice(), &summary, flags)?;
+    put_entries_part(&mut out, program, entries, flags)?;
     Ok(out)
+}
+
+/// Appends what a text shows before its entries: the outputs in order, but none with a seed; the summary as lines, or with `json` as JSON;
+/// and with `journal` the line `[journal]`, behind which the entries belong. The outputs name threads of the program. Out of memory may be
+/// answered at any time.
+pub fn put_head(
+    out: &mut Vec<u8>,
+    program: &Program,
+    outputs: &[Output],
+    summary: &Summary,
+    flags: Flags,
+) -> Result<(), NoMemory>
+    requires { All (NamesThread program.now) outputs.now }
+    ensures { OnOk result (out.new.items ≡ out.old.items ++ head program.now outputs.now summary.now flags) }
+{
+    put_outputs_part(out, program, outputs, flags)?;
+    put_summary_part(out, summary, flags)?;
+    put_header_part(out, flags)
 }
 
 fn put_outputs_part(
     out: &mut Vec<u8>,
     program: &Program,
-    model: &Model,
+    outputs: &[Output],
     flags: Flags,
 ) -> Result<(), NoMemory>
-    requires { All (λ (o : Output). o.thread.0 < length program.now.threads) model.now.outputs }
-    ensures { OnOk result (out.new.items ≡ out.old.items ++ outputs_part program.now model.now flags) }
+    requires { All (NamesThread program.now) outputs.now }
+    ensures { OnOk result (out.new.items ≡ out.old.items ++ outputs_part program.now outputs.now flags) }
 {
     match flags.seed {
-        None => put_outputs(out, program, model.outputs.as_slice()),
+        None => put_outputs(out, program, outputs),
         Some(_) => Ok(()),
     }
 }
 
-fn put_summary_part(
-    out: &mut Vec<u8>,
-    program: &Program,
-    model: &Model,
-    entries: &[Entry],
-    charges: u32,
-    flags: Flags,
-) -> Result<(), NoMemory>
-    requires { IsReportable program.now model.now entries.now }
-    ensures { OnOk result (out.new.items ≡ out.old.items ++ summary_part program.now model.now entries.now charges flags) }
+fn put_summary_part(out: &mut Vec<u8>, summary: &Summary, flags: Flags) -> Result<(), NoMemory>
+    ensures { OnOk result (out.new.items ≡ out.old.items ++ summary_part summary.now flags) }
 {
     if flags.json {
-        put_json(out, program, model, entries, charges)
+        put_json(out, summary)
     } else {
-        put_summary(out, program, model, entries, charges)
+        put_summary(out, summary)
     }
 }
 
-fn put_summary(
-    out: &mut Vec<u8>,
-    program: &Program,
-    model: &Model,
-    entries: &[Entry],
-    charges: u32,
-) -> Result<(), NoMemory>
-    requires { IsReportable program.now model.now entries.now }
-    ensures { OnOk result (out.new.items ≡ out.old.items ++ summary_lines program.now model.now entries.now charges) }
+fn put_header_part(out: &mut Vec<u8>, flags: Flags) -> Result<(), NoMemory>
+    ensures { OnOk result (out.new.items ≡ out.old.items ++ header_part flags) }
 {
-    put_threads(out, program, model)?;
-    put_sources(out, program, model, entries)?;
-    put_totals(out, model, charges)
+    if flags.journal {
+        out.extend_from_slice(b"[journal]\n")?;
+    }
+    Ok(())
 }
 
-fn put_journal_part(
+fn put_entries_part(
     out: &mut Vec<u8>,
     program: &Program,
     entries: &[Entry],
     flags: Flags,
 ) -> Result<(), NoMemory>
     requires { All (NamesPart program.now) entries.now }
-    ensures { OnOk result (out.new.items ≡ out.old.items ++ journal_part program.now entries.now flags) }
+    ensures { OnOk result (out.new.items ≡ out.old.items ++ entries_part program.now entries.now flags) }
 {
     if flags.journal {
-        put_journal(out, program, entries)
+        put_entries(out, program, entries)
     } else {
         Ok(())
     }
-}
-
-fn put_totals(out: &mut Vec<u8>, model: &Model, charges: u32) -> Result<(), NoMemory>
-    ensures { OnOk result (out.new.items ≡ out.old.items ++ totals_line model.now charges) }
-{
-    put_count(out, b"clock ", model.clock)?;
-    put_count(out, b" commits ", model.commits)?;
-    put_count(out, b" charges ", u64::from(charges))?;
-    out.push(b'\n')?;
-    Ok(())
 }

@@ -1,7 +1,7 @@
-use Rattle.std.proofs.Common.{◌≡◌, map}
+use Rattle.std.proofs.Common.{◌≡◌, map, take}
 use Rattle.serde_json.specs.View.{view}
-use Rattle.ink_report.specs.Json.{data_below, source_data}
+use Rattle.ink_report.specs.Json.{source_data}
 use Rattle.ink_report.proofs.json.source_values.Given as goal
 
-abbrev pub invariant-loop-i : goal.invariant-loop-i
-invariant-loop-i l = map view l.values.items ≡ data_below l.i (source_data l.model l.entries)
+abbrev pub invariant-loop-source : goal.invariant-loop-source
+invariant-loop-source l = map view l.values.items ≡ map source_data (take l.source-index l.sources)

@@ -1,5 +1,5 @@
 use Rattle.std.proofs.Common.{Result, Ok, Err, MatchResult, IsOk, rules}
-use Rattle.ink_report.proofs.Names.{IsUtf8-from_name}
+use Rattle.ink_report.proofs.AsciiNames.{IsUtf8-from_name}
 use Rattle.ink_report.proofs.json.text_of.Goals as goal
 
 -- an answer that can't be an error

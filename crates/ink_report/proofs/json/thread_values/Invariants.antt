@@ -1,7 +1,7 @@
-use Rattle.std.proofs.Common.{◌≡◌, map}
+use Rattle.std.proofs.Common.{◌≡◌, map, take}
 use Rattle.serde_json.specs.View.{view}
-use Rattle.ink_report.specs.Json.{data_below, thread_data}
+use Rattle.ink_report.specs.Json.{thread_data}
 use Rattle.ink_report.proofs.json.thread_values.Given as goal
 
-abbrev pub invariant-loop-t : goal.invariant-loop-t
-invariant-loop-t l = map view l.values.items ≡ data_below l.t (thread_data l.program l.model)
+abbrev pub invariant-loop-thread : goal.invariant-loop-thread
+invariant-loop-thread l = map view l.values.items ≡ map thread_data (take l.thread-index l.threads)

@@ -1,0 +1,7 @@
+use Rattle.std.proofs.Common.{◌≡◌, map}
+use Rattle.std.specs.List.{range_with_len}
+use Rattle.ink_report.specs.Summary.{thread_summary}
+use Rattle.ink_report.proofs.summary.threads_at.Given as goal
+
+abbrev pub invariant-loop-t : goal.invariant-loop-t
+invariant-loop-t l = l.threads ≡ map (thread_summary l.program l.model) (range_with_len 0 l.t)

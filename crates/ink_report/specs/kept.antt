@@ -1,0 +1,2 @@
+-- What only the proofs keep: what one entry makes of a summary.
+pub mod Noted
