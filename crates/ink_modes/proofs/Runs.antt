@@ -1,16 +1,11 @@
 -- What a record of a whole run tells.
-use Rattle.std.proofs.Common.{◌≡◌, ℕ, zero, suc, ◌^◌, ◌<◌, List, [], ◌∷◌, length, take, get_or, sym, ap, ◌∙◌, subst, arith}
+use Rattle.std.proofs.Common.{◌≡◌, ℕ, ◌^◌, ◌<◌, List, length, sym, ap, ◌∙◌, subst}
 use Rattle.std.specs.List.{flat_map}
 use Rattle.ink_base.specs.declared.entry.Entry.{Entry}
-use Rattle.ink_base.specs.declared.entry.Entry.TheVariants.{Scan}
-use Rattle.task_isa.specs.declared.program.Program.{Program}
 use Rattle.ink_layout.specs.Image.{IsFirstImage}
 use Rattle.job_parts.specs.Job.{JobParts, IsJob}
-use Rattle.never_cut.specs.declared.model.Model.{Model}
 use Rattle.never_cut.specs.State.{open_model}
-use Rattle.never_cut.specs.Entries.{Readings, Legal, effect}
-use Rattle.never_cut.specs.Journal.{after, IsLegal}
-use Rattle.never_cut.specs.Replay.{IsFirstIllegal}
+use Rattle.never_cut.specs.Journal.{IsLegal}
 use Rattle.never_cut.specs.Start.{CanStart}
 use Rattle.never_cut.proofs.Settled.{readings_in_order}
 use Rattle.never_cut.proofs.Served.{sound_turns, each_event_once}
@@ -53,15 +48,3 @@ module _ (job : JobParts) (first : List ℕ) (r : RunRecord) (is : IsJob job) (i
     stamps = stamps_by_commits job.program job.readings (open_model job.program) (journal_in r) start.sound.stamps legal_in;
     scanned = subst (λ (l : List ChargeRecord). ChargesAreScanned l) (sym charges) (run_scanned job first is);
   }
-
--- each entry of a legal journal is legal in its place
-legal_from : (program : Program) (readings : Readings) (m : Model) (journal : List Entry) (n : ℕ) → IsLegal program readings m journal → n < length journal →
-    Legal program readings (after program readings m (take n journal)) (get_or journal n Scan)
-legal_from program readings m [] n legal lt = absurd (omega arith)
-legal_from program readings m (e ∷ journal) zero legal lt = legal.0
-legal_from program readings m (e ∷ journal) (suc n) legal lt = legal_from program readings (effect program readings m e) journal n legal.1 (omega arith)
-
--- so a legal journal has no first illegal one
-pub none_illegal : (program : Program) (readings : Readings) (first : Model) (journal : List Entry) (n : ℕ) → IsLegal program readings first journal →
-    IsFirstIllegal program readings first journal n → ⊥
-none_illegal program readings first journal n legal illegal = illegal.illegal (legal_from program readings first journal n legal illegal.there)

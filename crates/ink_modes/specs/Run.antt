@@ -4,7 +4,7 @@ use Rattle.ink_base.specs.declared.entry.Entry.{Entry}
 use Rattle.ink_layout.specs.Image.{IsFirstImage}
 use Rattle.job_parts.specs.Job.{JobParts}
 use Rattle.never_cut.specs.State.{open_model}
-use Rattle.never_cut.specs.Journal.{after, IsLegal}
+use Rattle.never_cut.specs.Journal.{IsLegal}
 use Rattle.never_cut.specs.Laws.{ReadingsInOrder, EachEventOnce, StatesByCommits, StampsByCommits}
 use Rattle.kernel_core.specs.declared.run_record.RunRecord.{RunRecord}
 use Rattle.kernel_core.specs.Board.{Board, journal}
@@ -12,7 +12,7 @@ use Rattle.kernel_core.specs.Stands.{BoardStands}
 use Rattle.kernel_core.specs.Listed.{run, run_first}
 use Rattle.kernel_core.specs.Core.{setup_of}
 use Rattle.kernel_core.specs.Scanned.{ChargesAreScanned}
-pub use Rattle.kernel_core.specs.RunRecords.{entries_of, journal_in}
+pub use Rattle.kernel_core.specs.RunRecords.{entries_of, journal_in, state_in}
 use Rattle.ink_report.specs.declared.flags.Flags.{Flags}
 use Rattle.ink_report.specs.Report as report
 
@@ -44,4 +44,4 @@ pub record IsRunOf (job : JobParts) (r : RunRecord) : Type 0 where
 
 -- the text of a run: the outputs that its journal committed, the summary, and what is shown besides
 abbrev pub run_text_of : RunRecord → Flags → List ℕ
-run_text_of r flags = report.run_text r.job.program (after r.job.program r.job.readings (open_model r.job.program) (journal_in r)) (journal_in r) (length r.job.charges) flags
+run_text_of r flags = report.run_text r.job.program (state_in r) (journal_in r) (length r.job.charges) flags

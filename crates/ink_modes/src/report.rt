@@ -1,17 +1,23 @@
 //! The text of a record.
 
-ghost use Rattle.std.specs.Prelude.{◌≡◌, IfOk};
+ghost use Rattle.std.specs.Prelude.{◌≡◌, ◌++◌, ℕ, ◌<◌, ◌^◌, All, length, take, IfOk, OnOk};
 ghost use Rattle.std.specs.List.{flat_map};
-ghost use Rattle.never_cut.specs.Journal.{after};
+ghost use Rattle.never_cut.specs.Journal.{after, IsLegal};
+ghost use Rattle.never_cut.specs.Replaying.{model_of};
 ghost use Rattle.never_cut.specs.State.{open_model};
-ghost use Rattle.ink_report.specs.Conditions.{IsSupported};
-ghost use Rattle.ink_modes.specs.Run.{IsRunOf, run_text_of, journal_in, entries_of};
+ghost use Rattle.never_cut.specs.Within.{HasRoom};
+ghost use Rattle.ink_report.specs.Conditions.{FitsProgram, IsSupported, NamesPart};
+ghost use Rattle.ink_report.specs.Report.{entries_part};
+ghost use Rattle.ink_report.specs.Summary.{summary_of};
+ghost use Rattle.ink_modes.specs.Run.{IsRunOf, run_text_of, entries_of};
 
 use ink_base::{Entry, NoMemory};
-use ink_report::{Flags, run_text};
+use ink_report::{Flags, Summary, put_entries, put_head};
+use job_parts::Job;
 use kernel_core::{ChargeRecord, RunRecord};
-use never_cut::{Model, ReplayFault, replay};
+use never_cut::{Entered, Model, Replaying};
 use std::alloc::Global;
+use task_isa::Program;
 
 /// The text of the state after the record's journal: its outputs, the summary, and what is shown besides, as the flags say.
 pub fn report(alloc: Global, run: &RunRecord, flags: Flags) -> Result<Vec<u8>, NoMemory>
@@ -19,39 +25,83 @@ pub fn report(alloc: Global, run: &RunRecord, flags: Flags) -> Result<Vec<u8>, N
     requires supported { IsSupported flags }
     ensures { IfOk result (λ text. text.items ≡ run_text_of run.now flags) }
 {
-    let entries = all_entries(alloc, run.charges.as_slice())?;
-    let model = state_after(alloc, run, entries.as_slice())?;
-    let charges = run.job.charges().len() as u32;
-    run_text(
-        alloc,
-        run.job.accepted(),
-        &model,
-        entries.as_slice(),
-        charges,
-        flags,
-    )
+    let charges = run.charges.as_slice();
+    let model = state_after(alloc, &run.job, charges)?;
+    let summary = summary_after(alloc, &run.job, &model, charges)?;
+    let program = run.job.accepted().program();
+    let mut out = Vec::new(alloc);
+    put_head(&mut out, program, model.outputs.as_slice(), &summary, flags)?;
+    put_journal(&mut out, program, charges, flags)?;
+    Ok(out)
 }
 
-// The state of the never-cut kernel after the record's journal.
-fn state_after(alloc: Global, run: &RunRecord, entries: &[Entry]) -> Result<Model, NoMemory>
-    requires ran { IsRunOf run.now.job run.now }
-    requires journal { entries.now ≡ journal_in run.now }
-    ensures { IfOk result (λ m. m ≡ after run.now.job.program run.now.job.readings (open_model run.now.job.program) entries.now) }
+// The state of the never-cut kernel after the entries of all charges.
+fn state_after(alloc: Global, job: &Job, charges: &[ChargeRecord]) -> Result<Model, NoMemory>
+    requires legal { IsLegal job.now.program job.now.readings (open_model job.now.program) (flat_map entries_of charges.now) }
+    requires few { length (flat_map entries_of charges.now) < 2 ^ 32 }
+    ensures { IfOk result (λ m. m ≡ after job.now.program job.now.readings (open_model job.now.program) (flat_map entries_of charges.now)) }
 {
-    match replay(alloc, run.job.accepted(), run.job.readings(), entries) {
-        Ok(model) => Ok(model),
-        Err(ReplayFault::NoMemory) => Err(NoMemory),
-        Err(ReplayFault::Illegal(_)) => unreachable!(),
-    }
-}
-
-// The entries of all charges, in order.
-fn all_entries(alloc: Global, charges: &[ChargeRecord]) -> Result<Vec<Entry>, NoMemory>
-    ensures { IfOk result (λ entries. entries.items ≡ flat_map entries_of charges.now) }
-{
-    let mut entries = Vec::new(alloc);
+    let mut state = Replaying::open(alloc, job.accepted().program())?;
     for charge in charges {
-        entries.extend_from_slice(charge.entries.as_slice())?;
+        enter_all(&mut state, alloc, job, charge.entries.as_slice())?;
     }
-    Ok(entries)
+    Ok(state.into_model())
+}
+
+// Enters the entries of a charge.
+fn enter_all(
+    state: &mut Replaying,
+    alloc: Global,
+    job: &Job,
+    entries: &[Entry],
+) -> Result<(), NoMemory>
+    requires legal { IsLegal job.now.program job.now.readings (model_of state.old) entries.now }
+    requires room { (n : ℕ) → n < length entries.now → HasRoom job.now.program (after job.now.program job.now.readings (model_of state.old) (take n entries.now)) }
+    ensures { OnOk result (model_of state.new ≡ after job.now.program job.now.readings (model_of state.old) entries.now) }
+{
+    for entry in entries {
+        match state.enter(alloc, job.accepted(), job.readings(), *entry)? {
+            Entered::Made => {}
+            Entered::Illegal => unreachable!(),
+        }
+    }
+    Ok(())
+}
+
+// The summary of the state after the entries of all charges.
+fn summary_after(
+    alloc: Global,
+    job: &Job,
+    model: &Model,
+    charges: &[ChargeRecord],
+) -> Result<Summary, NoMemory>
+    requires fits { FitsProgram job.now.program model.now }
+    requires few { length (flat_map entries_of charges.now) < 2 ^ 32 }
+    ensures { IfOk result (λ summary. summary ≡ summary_of job.now.program model.now (flat_map entries_of charges.now) (length job.now.charges)) }
+{
+    let count = job.charges().len() as u32;
+    let mut summary = Summary::begin(alloc, job.accepted(), model, count)?;
+    for charge in charges {
+        summary.count(charge.entries.as_slice());
+    }
+    Ok(summary)
+}
+
+// Appends the lines of the entries of all charges, where the journal is asked for.
+fn put_journal(
+    out: &mut Vec<u8>,
+    program: &Program,
+    charges: &[ChargeRecord],
+    flags: Flags,
+) -> Result<(), NoMemory>
+    requires { All (NamesPart program.now) (flat_map entries_of charges.now) }
+    ensures { OnOk result (out.new.items ≡ out.old.items ++ entries_part program.now (flat_map entries_of charges.now) flags) }
+{
+    if !flags.journal {
+        return Ok(());
+    }
+    for charge in charges {
+        put_entries(out, program, charge.entries.as_slice())?;
+    }
+    Ok(())
 }

@@ -1,0 +1,7 @@
+use Rattle.std.proofs.Common.{◌≡◌, take}
+use Rattle.never_cut.specs.Journal.{after}
+use Rattle.never_cut.specs.Replaying.{model_of}
+use Rattle.ink_modes.proofs.report.enter_all.Given as goal
+
+abbrev pub invariant-loop-entry : goal.invariant-loop-entry
+invariant-loop-entry l = model_of l.state ≡ after l.job.program l.job.readings (model_of l.fn.state) (take l.entry-index l.entries)

@@ -1,0 +1,8 @@
+use Rattle.std.proofs.Common.{◌≡◌, ◌++◌, take}
+use Rattle.std.specs.List.{flat_map}
+use Rattle.ink_report.specs.Journal.{entry_lines}
+use Rattle.ink_modes.specs.Run.{entries_of}
+use Rattle.ink_modes.proofs.report.put_journal.Given as goal
+
+abbrev pub invariant-loop-charge : goal.invariant-loop-charge
+invariant-loop-charge l = l.out.items ≡ l.fn.out.items ++ entry_lines l.program (flat_map entries_of (take l.charge-index l.charges))

@@ -1,0 +1,62 @@
+use Rattle.std.proofs.Common.{◌≡◌, ◌^◌, ◌<◌, List, ◌++◌, length, All, sym, ap, ◌∙◌, subst}
+use Rattle.std.specs.List.{flat_map}
+use Rattle.ink_base.specs.declared.output.Output.{Output}
+use Rattle.task_isa.specs.declared.program.Program.{Program}
+use Rattle.never_cut.specs.declared.model.Model.{Model}
+use Rattle.never_cut.specs.State.{open_model}
+use Rattle.never_cut.specs.Journal.{after, IsLegal}
+use Rattle.kernel_core.specs.declared.charge_record.ChargeRecord.{ChargeRecord}
+use Rattle.kernel_core.specs.declared.run_record.RunRecord.{RunRecord}
+use Rattle.ink_report.specs.Conditions.{NamesPart, NamesThread, IsReportable}
+use Rattle.ink_report.specs.Report.{head, entries_part}
+use Rattle.ink_report.specs.Summary.{summary_of}
+use Rattle.ink_report.proofs.Reportable.{open_parts, legal_reportable}
+use Rattle.ink_modes.specs.Run.{IsRunOf, journal_in, state_in, entries_of}
+use Rattle.ink_modes.proofs.report.report.Goals as goal
+
+-- the state after the charges of a record
+abbrev state_of : RunRecord → List ChargeRecord → Model
+state_of r charges = after r.job.program r.job.readings (open_model r.job.program) (flat_map entries_of charges)
+
+-- its state and its journal can be told
+tellable : (r : RunRecord) (charges : List ChargeRecord) (m : Model) → IsRunOf r.job r → charges ≡ r.charges → m ≡ state_of r charges → IsReportable r.job.program m (flat_map entries_of charges)
+tellable r charges m ran same is =
+    subst (λ (z : Model × List ChargeRecord). IsReportable r.job.program z.0 (flat_map entries_of z.1)) (λ i. (sym (is ∙ ap (state_of r) same) i, sym same i))
+    (legal_reportable r.job.program r.job.readings (open_model r.job.program) (journal_in r) (open_parts r.job.program) ran.legal)
+
+pub state_after-requires-clause-legal : goal.state_after-requires-clause-legal
+state_after-requires-clause-legal c =
+    let job = c.args.run.now.job in
+    subst (λ (l : List ChargeRecord). IsLegal job.program job.readings (open_model job.program) (flat_map entries_of l)) (sym c.as_slice-charges.ensures) c.requires.ran.legal
+
+pub state_after-requires-clause-few : goal.state_after-requires-clause-few
+state_after-requires-clause-few c = subst (λ (l : List ChargeRecord). length (flat_map entries_of l) < 2 ^ 32) (sym c.as_slice-charges.ensures) c.requires.ran.few
+
+pub summary_after-requires-clause-fits : goal.summary_after-requires-clause-fits
+summary_after-requires-clause-fits c =
+    (tellable c.args.run.now c.as_slice-charges.result.now c.in_ok-model.model c.requires.ran c.as_slice-charges.ensures c.in_ok-model.ensures).state
+
+pub summary_after-requires-clause-few : goal.summary_after-requires-clause-few
+summary_after-requires-clause-few c = subst (λ (l : List ChargeRecord). length (flat_map entries_of l) < 2 ^ 32) (sym c.as_slice-charges.ensures) c.requires.ran.few
+
+pub put_head-requires : goal.put_head-requires
+put_head-requires c =
+    let told = tellable c.args.run.now c.as_slice-charges.result.now c.in_ok-model.model c.requires.ran c.as_slice-charges.ensures c.in_ok-model.ensures in
+    subst (λ (z : Program × List Output). All (NamesThread z.0) z.1) (λ i. (sym (c.program-program.ensures.same ∙ c.accepted.ensures.same) i, sym c.as_slice.ensures i)) told.state.outputs
+
+pub put_journal-requires : goal.put_journal-requires
+put_journal-requires c =
+    let told = tellable c.args.run.now c.as_slice-charges.result.now c.in_ok-model.model c.requires.ran c.as_slice-charges.ensures c.in_ok-model.ensures in
+    subst (λ (p : Program). All (NamesPart p) (flat_map entries_of c.as_slice-charges.result.now)) (sym (c.program-program.ensures.same ∙ c.accepted.ensures.same)) told.entries
+
+pub returns : goal.returns
+returns c =
+    let r = c.args.run.now in
+    let charges = c.as_slice-charges.ensures in
+    let program = c.program-program.ensures.same ∙ c.accepted.ensures.same in
+    let state : c.in_ok-model.model ≡ state_in r = c.in_ok-model.ensures ∙ ap (state_of r) charges in
+    let summary : c.in_ok-summary.summary ≡ summary_of r.job.program (state_in r) (journal_in r) (length r.job.charges) =
+    c.in_ok-summary.ensures ∙ (λ i. summary_of r.job.program (state i) (flat_map entries_of (charges i)) (length r.job.charges)) in
+    let outputs = c.as_slice.ensures ∙ ap (λ (m : Model). m.outputs) state in
+    let headed = c.in_ok-put_head.ensures ∙ (λ i. c.new-out.ensures.items i ++ head (program i) (outputs i) (summary i) c.args.flags) in
+    c.in_ok-put_journal.ensures ∙ (λ i. headed i ++ entries_part (program i) (flat_map entries_of (charges i)) c.args.flags)
