@@ -26,18 +26,18 @@ pub told_some : (words : List Word) (result : Option Command) (command : Command
     result ≡ Some command → ((any : Command) → IsCommand words any → result ≡ Some any) → IfSome result (IsCommand words) →
     TellsCommand command before now sink sink_now status kept → Tells words before now sink sink_now status kept
 told_some words result command before now sink sink_now status kept found exact is tells = record {
-    command = λ other other_is. subst (λ (c : Command). TellsCommand c before now sink sink_now status kept) (same_command words result command other found exact other_is) tells;
-    usage = λ none. absurd (none command (subst (λ (r : Option Command). IfSome r (IsCommand words)) found is));
-  }
+  command = λ other other_is. subst (λ (c : Command). TellsCommand c before now sink sink_now status kept) (same_command words result command other found exact other_is) tells;
+  usage = λ none. absurd (none command (subst (λ (r : Option Command). IfSome r (IsCommand words)) found is));
+}
 
 -- where none was found, the words are none
 pub told_none : (words : List Word) (result : Option Command) (before now : SourceState) (sink sink_now : SinkState) (status : Status) (kept : Option Record) →
     result ≡ None → ((any : Command) → IsCommand words any → result ≡ Some any) →
     DoesNothing before now sink sink_now status kept → Tells words before now sink sink_now status kept
 told_none words result before now sink sink_now status kept none exact nothing = record {
-    command = λ command is. absurd (let clash : None ≡ Some command = sym none ∙ exact command is in cc);
-    usage = λ _. nothing;
-  }
+  command = λ command is. absurd (let clash : None ≡ Some command = sym none ∙ exact command is in cc);
+  usage = λ _. nothing;
+}
 
 -- no source gives more bytes than it has
 no_more : (left now : Option (List ℕ)) (bytes text : List ℕ) → Consumes left now bytes → left ≡ Some text → length text ≤ 4194304 → length bytes ≡ 4194305 → ⊥

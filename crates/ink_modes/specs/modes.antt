@@ -8,7 +8,6 @@ use Rattle.ink_modes.specs.Form.{ModeForm}
 use Rattle.ink_modes.specs.modes.Run.{run}
 use Rattle.ink_modes.specs.modes.Soak.{soak}
 use Rattle.ink_modes.specs.modes.Print.{print}
-
 pub mod Run
 pub mod Soak
 pub mod Print

@@ -126,10 +126,34 @@ impl Asked {
         match piece {
             Piece::Named(mode) => self.with_mode(mode),
             Piece::Seed(number) => self.with_seed(number),
-            Piece::Journal => self.once(flags.journal, Flags { journal: true, ..flags }),
-            Piece::Json => self.once(flags.json, Flags { json: true, ..flags }),
-            Piece::Bounds => self.once(flags.bounds, Flags { bounds: true, ..flags }),
-            Piece::Image => self.once(flags.image, Flags { image: true, ..flags }),
+            Piece::Journal => self.once(
+                flags.journal,
+                Flags {
+                    journal: true,
+                    ..flags
+                },
+            ),
+            Piece::Json => self.once(
+                flags.json,
+                Flags {
+                    json: true,
+                    ..flags
+                },
+            ),
+            Piece::Bounds => self.once(
+                flags.bounds,
+                Flags {
+                    bounds: true,
+                    ..flags
+                },
+            ),
+            Piece::Image => self.once(
+                flags.image,
+                Flags {
+                    image: true,
+                    ..flags
+                },
+            ),
         }
     }
 
@@ -147,7 +171,10 @@ impl Asked {
         ensures { result ≡ kept.asked_with self (Piece.Named mode) }
     {
         match self.mode {
-            None => Some(Asked { mode: Some(mode), ..self }),
+            None => Some(Asked {
+                mode: Some(mode),
+                ..self
+            }),
             Some(_) => None,
         }
     }

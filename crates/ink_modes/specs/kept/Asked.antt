@@ -1,5 +1,5 @@
 -- What is asked for by pieces of words, one after another.
-use Rattle.std.specs.Prelude.{Bool, true, false, List, [], ◌∷◌, Option, Some, None, is_some, if◌then◌else◌}
+use Rattle.std.specs.Prelude.{Bool, true, List, [], ◌∷◌, Option, Some, None, is_some, if◌then◌else◌}
 use Rattle.ink_report.specs.declared.flags.Flags.{Flags}
 use Rattle.ink_report.specs.Conditions.{no_flags}
 use Rattle.ink_modes.specs.declared.words.Piece.{Piece}

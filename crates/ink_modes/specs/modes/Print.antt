@@ -20,8 +20,8 @@ text flags _ = []
 -- it has no flags
 abbrev pub print : ModeForm
 print = record {
-    word = codes "print";
-    allowed = record { journal = false; json = false; bounds = false; image = false; seed = false };
-    makes = Makes;
-    text = text;
-  }
+  word = codes "print";
+  allowed = record { journal = false; json = false; bounds = false; image = false; seed = false };
+  makes = Makes;
+  text = text;
+}

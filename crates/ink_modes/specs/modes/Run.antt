@@ -20,8 +20,8 @@ text flags _ = []
 -- it may show the journal, and JSON
 abbrev pub run : ModeForm
 run = record {
-    word = codes "run";
-    allowed = record { journal = true; json = true; bounds = false; image = false; seed = false };
-    makes = Makes;
-    text = text;
-  }
+  word = codes "run";
+  allowed = record { journal = true; json = true; bounds = false; image = false; seed = false };
+  makes = Makes;
+  text = text;
+}

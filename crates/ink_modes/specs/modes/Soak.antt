@@ -6,8 +6,8 @@ use Rattle.ink_modes.specs.modes.Run.{Makes, text}
 -- it has a seed, and may show the journal, and JSON
 abbrev pub soak : ModeForm
 soak = record {
-    word = codes "soak";
-    allowed = record { journal = true; json = true; bounds = false; image = false; seed = true };
-    makes = Makes;
-    text = text;
-  }
+  word = codes "soak";
+  allowed = record { journal = true; json = true; bounds = false; image = false; seed = true };
+  makes = Makes;
+  text = text;
+}

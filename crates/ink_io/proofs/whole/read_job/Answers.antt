@@ -10,10 +10,12 @@ returns-then-is_err-clause-stops g c =
     let job = c.loop-piece.job.items in
     let piece = take c.in-Ok.count c.read.new.into in (
       omega (arith, c.in-Ok.ensures.cause.kept, c.loop-piece.invariant.2),
-      (job ++ piece,
-      record {
-        taken = Consumes-trans (state c.args.source.now).left (state c.loop-piece.source).left (state c.read.new.self).left job piece c.loop-piece.invariant.1.taken c.in-Ok.ensures.bytes.0;
-        reads = omega (arith, c.loop-piece.invariant.1.reads, c.in-Ok.ensures.counted, length-append job piece, length-take c.in-Ok.count c.read.new.into, length-take c.min-room.result c.loop-piece.piece);
-      },
-      omega (arith, length-append job piece, length-take c.in-Ok.count c.read.new.into, length-take c.min-room.result c.loop-piece.piece)),
+      (
+        job ++ piece,
+        record {
+          taken = Consumes-trans (state c.args.source.now).left (state c.loop-piece.source).left (state c.read.new.self).left job piece c.loop-piece.invariant.1.taken c.in-Ok.ensures.bytes.0;
+          reads = omega (arith, c.loop-piece.invariant.1.reads, c.in-Ok.ensures.counted, length-append job piece, length-take c.in-Ok.count c.read.new.into, length-take c.min-room.result c.loop-piece.piece);
+        },
+        omega (arith, length-append job piece, length-take c.in-Ok.count c.read.new.into, length-take c.min-room.result c.loop-piece.piece),
+      ),
     )
