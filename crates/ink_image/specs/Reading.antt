@@ -21,7 +21,7 @@ abbrev pub is_word : Word → Bool
 is_word w = length w == 16 && list_all is_digit w
 
 -- what digits say
-unfoldable pub value : Word → ℕ
+abbrev pub value : Word → ℕ
 value w = fold (λ n b. 16 * n + digit_value b) 0 w
 
 -- what a word says; none where it isn't 16 digits

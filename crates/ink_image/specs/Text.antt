@@ -18,10 +18,14 @@ word_text word = digits 16 word
 abbrev pub next_text : ℕ → List ℕ
 next_text word = 32 ∷ word_text word
 
--- a line: its words with one space between
+-- words with one space between
+abbrev pub joined : List ℕ → List ℕ
+joined [] = []
+joined (word ∷ words) = word_text word ++ flat_map next_text words
+
+-- a line of words
 abbrev pub line_text : List ℕ → List ℕ
-line_text [] = 10 ∷ []
-line_text (word ∷ words) = word_text word ++ flat_map next_text words ++ 10 ∷ []
+line_text words = joined words ++ 10 ∷ []
 
 -- words in lines, eight in each, the last line what is left
 unfoldable pub rows : List ℕ → List (List ℕ)

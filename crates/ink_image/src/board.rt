@@ -17,10 +17,12 @@ use thread_state::place_in;
 
 // The word of a place of the program's board.
 #[inline(always)]
+#[tactic(auto, using(crate::proofs::Words::word_found))]
 pub fn word_at(plan: &Plan, words: &Fram, place: Place) -> u64
     requires { IsOnBoard plan.now.accepted (place_of place) }
     ensures { result ≡ memory_in plan.now.accepted words.now (place_of place) }
 {
+    let _program = plan.program();
     words.word(plan.address(place))
 }
 

@@ -45,7 +45,7 @@ pub fn read_words(alloc: Global, text: &[u8], tokens: &[Token]) -> Result<Vec<u6
 {
     let mut words = Vec::new(alloc);
     let mut rest = tokens;
-    while !rest.is_empty() {
+    'lines: while !rest.is_empty() {
         let (line, tokens, after) = split_line(rest);
         if is_header(text, tokens) {
             return Ok(words);

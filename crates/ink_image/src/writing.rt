@@ -1,8 +1,8 @@
 //! The text of an image.
 
-ghost use Rattle.std.specs.Prelude.{◌≡◌, ◌++◌, ◌<◌, ◌∷◌, ◌^◌, [], All, OnOk, IfOk};
+ghost use Rattle.std.specs.Prelude.{◌≡◌, ◌++◌, ◌<◌, OnOk, IfOk};
 ghost use Rattle.std.specs.List.{flat_map};
-ghost use Rattle.ink_image.specs.Text.{digit_byte, digits, line_text, rows, word_text, image_text};
+ghost use Rattle.ink_image.specs.Text.{digit_byte, digits, next_text, joined, line_text, rows, word_text, image_text};
 ghost use Rattle.ink_image.specs.Reading.{Says};
 
 use ink_base::NoMemory;
@@ -27,7 +27,7 @@ fn put_rows(text: &mut Vec<u8>, words: &[u64]) -> Result<(), NoMemory>
     ensures { OnOk result (text.new.items ≡ text.old.items ++ flat_map line_text (rows words.now)) }
 {
     let mut rest = words;
-    while !rest.is_empty() {
+    'rows: while !rest.is_empty() {
         let (row, after) = rest.split_at(rest.len().min(ROW));
         put_row(text, row)?;
         rest = after;
@@ -38,14 +38,31 @@ fn put_rows(text: &mut Vec<u8>, words: &[u64]) -> Result<(), NoMemory>
 fn put_row(text: &mut Vec<u8>, words: &[u64]) -> Result<(), NoMemory>
     ensures { OnOk result (text.new.items ≡ text.old.items ++ line_text words.now) }
 {
-    if let [first, rest @ ..] = words {
-        put_word(text, *first)?;
-        for word in rest {
-            text.push(b' ')?;
-            put_word(text, *word)?;
+    put_words(text, words)?;
+    text.push(b'\n')?;
+    Ok(())
+}
+
+fn put_words(text: &mut Vec<u8>, words: &[u64]) -> Result<(), NoMemory>
+    ensures { OnOk result (text.new.items ≡ text.old.items ++ joined words.now) }
+{
+    match words {
+        [] => Ok(()),
+        [first, rest @ ..] => {
+            put_word(text, *first)?;
+            put_others(text, rest)
         }
     }
-    text.push(b'\n')?;
+}
+
+// The words behind the first one of a line.
+fn put_others(text: &mut Vec<u8>, words: &[u64]) -> Result<(), NoMemory>
+    ensures { OnOk result (text.new.items ≡ text.old.items ++ flat_map next_text words.now) }
+{
+    for word in words {
+        text.push(b' ')?;
+        put_word(text, *word)?;
+    }
     Ok(())
 }
 

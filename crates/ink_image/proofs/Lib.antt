@@ -1,0 +1,4 @@
+pub mod Rows
+pub mod Sections
+pub mod Again
+pub mod Words
