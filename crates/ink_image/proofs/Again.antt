@@ -1,5 +1,5 @@
 -- The text of an image says its words when it is read again.
-use Rattle.std.proofs.Common.{◌≡◌, ℕ, zero, suc, ◌+◌, ◌*◌, ◌/◌, ◌%◌, ◌^◌, ◌<◌, ◌≤◌, ◌&&◌, eqb, Bool, true, false, List, [], ◌∷◌, ◌++◌, length, map, Some, Ok, refl, sym, ap, ◌∙◌, append_assoc, length-append, arith, add-one}
+use Rattle.std.proofs.Common.{◌≡◌, ℕ, zero, suc, ◌+◌, ◌*◌, ◌/◌, ◌%◌, ◌^◌, ◌<◌, ◌≤◌, ◌&&◌, eqb, Bool, true, false, List, [], ◌∷◌, ◌++◌, length, map, Some, Ok, refl, sym, ap, subst, ◌∙◌, append_assoc, length-append, arith, add-one}
 use Rattle.std.specs.Prelude.{codes, fold}
 use Rattle.std.specs.List.{list_all, flat_map, AllByRecursion}
 use Rattle.std.proofs.Math.Nat.{pow-succ'}
@@ -174,5 +174,5 @@ says_again words below =
     record {
       behind = with_numbers 2 (map (map word_text) (rows words));
       lines = ap lines_of (whole ∙ sym (append-nil (text_of lss))) ∙ lines_again 1 lss [] right ∙ append-nil (with_numbers 1 lss);
-      words = rows_said 2 (rows words) (rw rows_flat below) ∙ ap (λ (x : List ℕ). Ok x) (rows_flat words);
+      words = rows_said 2 (rows words) (subst Below (sym (rows_flat words)) below) ∙ ap (λ (x : List ℕ). Ok x) (rows_flat words);
     }

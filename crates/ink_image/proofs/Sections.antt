@@ -5,7 +5,7 @@ use Rattle.std.proofs.lemmas.List.Sums.{take_while-cons}
 use Rattle.ink_base.specs.Lines.{Line}
 use Rattle.ink_base.specs.Tokens.{Entry, entries}
 use Rattle.task_asm.specs.Section.{is_header}
-use Rattle.ink_image.specs.Reading.{said, section_entries, onto, with_said, read, Reads, ReadsOn}
+use Rattle.ink_image.specs.Reading.{said, section_lines, section_entries, onto, with_said, read, Reads, ReadsOn}
 use Rattle.ink_image.specs.declared.reading.WordsAnswer.{WordsAnswer}
 use Rattle.ink_image.specs.declared.reading.WordsAnswer.TheVariants as answers
 
@@ -29,11 +29,11 @@ onto_fails a (Err other) line h = h
 
 pub section_header : (l : Line) (ls : List Line) → is_header l.words ≡ true → section_entries (l ∷ ls) ≡ []
 section_header l ls h =
-    ap (flat_map entries) (take_while-cons (λ (k : Line). not (is_header k.words)) l ls ∙ ap (λ (b : Bool). cond (not b) (l ∷ _) []) h)
+    ap (flat_map entries) (take_while-cons (λ (k : Line). not (is_header k.words)) l ls ∙ ap (λ (b : Bool). cond (not b) (l ∷ section_lines ls) []) h)
 
 pub section_line : (l : Line) (ls : List Line) → is_header l.words ≡ false → section_entries (l ∷ ls) ≡ entries l ++ section_entries ls
 section_line l ls h =
-    ap (flat_map entries) (take_while-cons (λ (k : Line). not (is_header k.words)) l ls ∙ ap (λ (b : Bool). cond (not b) (l ∷ _) []) h)
+    ap (flat_map entries) (take_while-cons (λ (k : Line). not (is_header k.words)) l ls ∙ ap (λ (b : Bool). cond (not b) (l ∷ section_lines ls) []) h)
 
 onto_nil : (r : Result (List ℕ) ℕ) → onto [] r ≡ r
 onto_nil (Ok a) = refl
