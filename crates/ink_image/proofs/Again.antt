@@ -1,5 +1,5 @@
 -- The text of an image says its words when it is read again.
-use Rattle.std.proofs.Common.{◌≡◌, ℕ, zero, suc, ◌+◌, ◌*◌, ◌/◌, ◌%◌, ◌^◌, ◌<◌, ◌≤◌, ◌&&◌, eqb, Bool, true, false, List, [], ◌∷◌, ◌++◌, length, map, Some, Ok, refl, sym, ap, subst, ◌∙◌, append_assoc, length-append, arith, add-one}
+use Rattle.std.proofs.Common.{◌≡◌, ℕ, zero, suc, ◌+◌, ◌*◌, ◌/◌, ◌%◌, ◌^◌, ◌<◌, ◌≤◌, ◌&&◌, eqb, Bool, true, false, List, [], ◌∷◌, ◌++◌, length, map, get_or, Some, Ok, refl, sym, ap, subst, ◌∙◌, append_assoc, length-append, arith, add-one}
 use Rattle.std.specs.Prelude.{codes, fold}
 use Rattle.std.specs.List.{list_all, flat_map, AllByRecursion}
 use Rattle.std.proofs.Math.Nat.{pow-succ'}
@@ -70,7 +70,7 @@ said_again word lt =
 
 -- a digit is no other byte
 other_byte : (b k : ℕ) → is_digit b ≡ true → is_digit k ≡ false → eqb b k ≡ false
-other_byte b k h no = ne_eqb b k (λ e. let at : is_digit k ≡ true = sym (ap is_digit e) ∙ h in cc)
+other_byte b k h other = ne_eqb b k (λ e. let at : is_digit k ≡ true = sym (ap is_digit e) ∙ h in cc)
 
 digit_goes_on : (b : ℕ) → is_digit b ≡ true → goes_on b ≡ true
 digit_goes_on b h = rw (other_byte b 10 h refl, other_byte b 35 h refl, other_byte b 32 h refl, other_byte b 9 h refl, other_byte b 13 h refl) refl
@@ -165,14 +165,18 @@ rows_said n (row ∷ rs) h =
     ∙ read_append (line_entries n (map word_text row)) (section_entries (with_numbers (n + 1) (map (map word_text) rs))) row (row_said n row both.0)
     ∙ ap (onto row) (rows_said (n + 1) rs both.1)
 
-pub says_again : (words : List ℕ) → AllByRecursion (λ w. w < 2 ^ 64) words → Says (image_text words) words
+below_from : (ws : List ℕ) → ((k : ℕ) → k < length ws → get_or ws k 0 < 2 ^ 64) → Below ws
 unfolding Below
+below_from [] h = tt
+below_from (w ∷ ws) h = (h 0 (omega arith), below_from ws (λ k lt. h (suc k) (omega arith)))
+
+pub says_again : (words : List ℕ) → ((k : ℕ) → k < length words → get_or words k 0 < 2 ^ 64) → Says (image_text words) words
 says_again words below =
     let lss : List (List Word) = (codes "[image2]" ∷ []) ∷ map (map word_text) (rows words) in
     let whole : image_text words ≡ text_of lss = ap (λ (x : List ℕ). codes "[image2]\n" ++ x) (sym (rows_text (rows words))) in
     let right : list_all are_words lss ≡ true = rows_again words in
     record {
       behind = with_numbers 2 (map (map word_text) (rows words));
-      lines = ap lines_of (whole ∙ sym (append-nil (text_of lss))) ∙ lines_again 1 lss [] right ∙ append-nil (with_numbers 1 lss);
-      words = rows_said 2 (rows words) (subst Below (sym (rows_flat words)) below) ∙ ap (λ (x : List ℕ). Ok x) (rows_flat words);
+      header = ap lines_of (whole ∙ sym (append-nil (text_of lss))) ∙ lines_again 1 lss [] right ∙ append-nil (with_numbers 1 lss);
+      section = rows_said 2 (rows words) (subst Below (sym (rows_flat words)) (below_from words below)) ∙ ap (λ (x : List ℕ). Ok x) (rows_flat words);
     }

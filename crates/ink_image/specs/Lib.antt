@@ -1,5 +1,2 @@
 pub mod Text
 pub mod Reading
-pub mod Board
-pub mod Stamps
-pub mod Failing

@@ -55,11 +55,11 @@ unfoldable pub read : List Entry → Result (List ℕ) ℕ
 read [] = Ok []
 read (e ∷ es) = with_said e.0 (said e.1) (read es)
 
--- the code's answer is what was read, unless memory ran out
-abbrev pub Reads : Result (List ℕ) WordsAnswer → Result (List ℕ) ℕ → Type 0
-Reads (Ok words) said = said ≡ Ok words
-Reads (Err (answers.BadWord line)) said = said ≡ Err line
-Reads (Err answers.NoMemory) said = Unit {0}
+-- the code's answer, seen by view, is what was read, unless memory ran out
+abbrev pub Reads : {X : Type 0} → (X → List ℕ) → Result X WordsAnswer → Result (List ℕ) ℕ → Type 0
+Reads view (Ok words) said = said ≡ Ok (view words)
+Reads view (Err (answers.BadWord line)) said = said ≡ Err line
+Reads view (Err answers.NoMemory) said = Unit {0}
 
 -- the same where the code leaves them behind those that were there
 abbrev pub ReadsOn : (before after : List ℕ) → Result (Unit {0}) WordsAnswer → Result (List ℕ) ℕ → Type 0
@@ -70,5 +70,5 @@ ReadsOn before after (Err answers.NoMemory) said = Unit {0}
 -- A text says these words: read again, it is a header's line, and a section that says them behind it.
 pub record Says (text words : List ℕ) : Type 0 where
   pub behind : List Line
-  pub lines : lines_of text ≡ record { number = 1; words = codes "[image2]" ∷ [] } ∷ behind
-  pub words : read (section_entries behind) ≡ Ok words
+  pub header : lines_of text ≡ record { number = 1; words = codes "[image2]" ∷ [] } ∷ behind
+  pub section : read (section_entries behind) ≡ Ok words

@@ -41,7 +41,7 @@ impl<T: Drop> From<AllocFailed<T>> for WordsAnswer {
 /// The words of an image's section in order: the tokens are those behind its header, and it ends at the next header or with them.
 /// A line may have any number of words, each of 16 hexadecimal digits in upper or lower case. `BadWord` exactly at the first that isn't.
 pub fn read_words(alloc: Global, text: &[u8], tokens: &[Token]) -> Result<Vec<u64>, WordsAnswer>
-    ensures { Reads result (read (section_entries (token_lines text.now tokens.now))) }
+    ensures { Reads (λ words. words.items) result (read (section_entries (token_lines text.now tokens.now))) }
 {
     let mut words = Vec::new(alloc);
     let mut rest = tokens;
@@ -50,7 +50,9 @@ pub fn read_words(alloc: Global, text: &[u8], tokens: &[Token]) -> Result<Vec<u6
         if is_header(text, tokens) {
             return Ok(words);
         }
-        read_line(&mut words, text, line, tokens)?;
+        if let Err(e) = read_line(&mut words, text, line, tokens) {
+            return Err(e);
+        }
         rest = after;
     }
     Ok(words)
