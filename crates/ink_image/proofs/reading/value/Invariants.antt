@@ -1,0 +1,6 @@
+use Rattle.std.proofs.Common.{◌≡◌, ◌+◌, ◌^◌, ◌≤◌, take}
+use Rattle.ink_image.specs.Reading.{value}
+use Rattle.ink_image.proofs.reading.value.Given as goal
+
+abbrev pub invariant-loop-b : goal.invariant-loop-b
+invariant-loop-b l = (l.n + 1 ≤ 16 ^ l.b-index) × (l.n ≡ value (take l.b-index l.word))
