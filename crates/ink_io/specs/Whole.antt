@@ -1,20 +1,17 @@
 -- What the reading of a whole job and the writing of a whole text tell.
 use Rattle.std.specs.Prelude.{◌≡◌, ℕ, ◌+◌, ◌≤◌, ◌<◌, List, length, take}
 use Rattle.std.specs.Io.KnownBytes.{Appends, Consumes, IsAtEnd}
+use Rattle.ink_base.specs.declared.limits.TheConstants as limits
 use Rattle.ink_io.specs.declared.answers.ReadAnswer.{ReadAnswer}
 use Rattle.ink_io.specs.declared.answers.ReadAnswer.TheVariants.{ReadFault, TooLong, NoMemory}
 use Rattle.ink_io.specs.Counts.{Rose}
 use Rattle.ink_io.specs.States.{SourceState, SinkState}
 
--- the most bytes that a job may have
-abbrev pub job_limit : ℕ
-job_limit = 4194304
-
 -- the text was read to the end of the source, without a fault; each successful read but the last took at least one byte of it
 pub record GaveText (before now : SourceState) (text : List ℕ) : Type 0 where
   pub bytes : Consumes before.left now.left text
   pub end : IsAtEnd now.left
-  pub short : length text ≤ job_limit
+  pub short : length text ≤ limits.TEXT_BYTES
   pub clean : now.faults ≡ before.faults
   pub reads : now.reads ≤ before.reads + length text + 1
 
@@ -34,9 +31,9 @@ TookAtMost before now n = (bytes : List ℕ) × Took before now bytes × (length
 -- Why a job wasn't read: a call failed, before more bytes were taken than a job may have; or one byte more than that was taken; or memory
 -- was refused.
 abbrev pub StopsRead : SourceState → SourceState → ReadAnswer → Type 0
-StopsRead before now ReadFault = Rose before.faults now.faults × TookAtMost before now job_limit
-StopsRead before now TooLong = (now.faults ≡ before.faults) × TookCount before now (job_limit + 1)
-StopsRead before now NoMemory = (now.faults ≡ before.faults) × TookAtMost before now (job_limit + 1)
+StopsRead before now ReadFault = Rose before.faults now.faults × TookAtMost before now limits.TEXT_BYTES
+StopsRead before now TooLong = (now.faults ≡ before.faults) × TookCount before now (limits.TEXT_BYTES + 1)
+StopsRead before now NoMemory = (now.faults ≡ before.faults) × TookAtMost before now (limits.TEXT_BYTES + 1)
 
 -- the whole text was appended, and no call failed
 abbrev pub WroteText : SinkState → SinkState → List ℕ → Type 0

@@ -21,4 +21,4 @@ pub use sink::Sink;
 pub use source::Source;
 pub use standard::{StdSink, StdSource};
 pub use sure::{SureSink, SureSource};
-pub use whole::{JOB_LIMIT, read_job, write_all_text};
+pub use whole::{read_job, write_all_text};

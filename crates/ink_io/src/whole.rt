@@ -6,10 +6,8 @@ ghost use Rattle.ink_io.specs.Whole.{GaveText, StopsRead, WroteText, WrotePart};
 use crate::answers::{ReadAnswer, WriteFault};
 use crate::sink::Sink;
 use crate::source::Source;
+use ink_base::limits::TEXT_BYTES;
 use std::alloc::Global;
-
-/// The most bytes that a job may have.
-pub const JOB_LIMIT: usize = 4_194_304;
 
 // The most bytes that one call of the source is asked for.
 const PIECE: usize = 4096;
@@ -27,8 +25,8 @@ pub fn read_job<S: Source>(alloc: Global, source: &mut S) -> Result<Vec<u8>, Rea
 {
     let mut job = Vec::new(alloc);
     let mut piece = [0u8; PIECE];
-    while job.len() <= JOB_LIMIT {
-        let room = (JOB_LIMIT + 1 - job.len()).min(PIECE);
+    while job.len() <= TEXT_BYTES {
+        let room = (TEXT_BYTES + 1 - job.len()).min(PIECE);
         let Ok(count) = source.read(&mut piece[..room]) else {
             return Err(ReadAnswer::ReadFault);
         };

@@ -1,12 +1,13 @@
 -- What each status tells.
 use Rattle.std.specs.Prelude.{◌≡◌, ℕ, ◌≤◌, ◌⊎◌, List, length, Ok, Err, Option, Some, None}
+use Rattle.ink_base.specs.declared.limits.TheConstants as limits
 use Rattle.ink_base.specs.Lines.{Word}
 use Rattle.ink_base.specs.declared.status.Status.{Status}
 use Rattle.ink_base.specs.declared.status.Status.TheVariants.{Done, Usage, Refused, ReadFault, WriteFault, NoMemory, TooLong}
 use Rattle.ink_io.specs.declared.answers.ReadAnswer.TheVariants as reading
 use Rattle.ink_io.specs.Counts.{Rose}
 use Rattle.ink_io.specs.States.{SourceState, SinkState}
-use Rattle.ink_io.specs.Whole.{job_limit, GaveText, StopsRead, WroteText, WrotePart}
+use Rattle.ink_io.specs.Whole.{GaveText, StopsRead, WroteText, WrotePart}
 use Rattle.job_parts.specs.Job.{JobParts}
 use Rattle.power_trace.specs.Parse.{job_at}
 use Rattle.ink_modes.specs.declared.command.Command.{Command}
@@ -57,7 +58,7 @@ pub record Tells (words : List Word) (before now : SourceState) (sink sink_now :
 
 -- the source has the text of a job, and tells it
 abbrev pub HasJob : SourceState → Type 0
-HasJob source = (text : List ℕ) × (source.left ≡ Some text) × (length text ≤ job_limit) × ((job : JobParts) × (job_at text ≡ Ok job))
+HasJob source = (text : List ℕ) × (source.left ≡ Some text) × (length text ≤ limits.TEXT_BYTES) × ((job : JobParts) × (job_at text ≡ Ok job))
 
 -- what a command needs of its source: nothing, where it has a seed
 abbrev pub Needs : Option ℕ → SourceState → Type 0

@@ -1,7 +1,7 @@
 -- What the user is told of each answer: the exit status, and the line on standard error.
 use Rattle.std.specs.Prelude.{ℕ, List, [], ◌++◌, codes, decimal}
 use Rattle.ink_base.specs.declared.fault.Cause.{Cause}
-use Rattle.ink_base.specs.declared.fault.Cause.TheVariants.{BadByte, UnknownWord, BadNumber, Duplicate, Missing, OverLimit, BadTarget, BadOwner, BadSection}
+use Rattle.ink_base.specs.declared.fault.Cause.TheVariants.{BadByte, UnknownWord, BadNumber, Duplicate, Missing, OverLimit, BadTarget, BadOwner, BadSection, BadWord, WrongShape, NotStanding, Worn}
 use Rattle.ink_base.specs.declared.status.Status.{Status}
 use Rattle.ink_base.specs.declared.status.Status.TheVariants.{Done, Usage, Refused, ReadFault, WriteFault, NoMemory, TooLong}
 
@@ -26,6 +26,10 @@ cause_name OverLimit = codes "OverLimit"
 cause_name BadTarget = codes "BadTarget"
 cause_name BadOwner = codes "BadOwner"
 cause_name BadSection = codes "BadSection"
+cause_name BadWord = codes "BadWord"
+cause_name WrongShape = codes "WrongShape"
+cause_name NotStanding = codes "NotStanding"
+cause_name Worn = codes "Worn"
 
 -- the line on standard error, without its end; after `Done` there is none
 abbrev pub complaint_of : Status → List ℕ

@@ -45,6 +45,10 @@ fn cause_name(cause: Cause) -> &'static str
         Cause::BadTarget => "BadTarget",
         Cause::BadOwner => "BadOwner",
         Cause::BadSection => "BadSection",
+        Cause::BadWord => "BadWord",
+        Cause::WrongShape => "WrongShape",
+        Cause::NotStanding => "NotStanding",
+        Cause::Worn => "Worn",
     }
 }
 

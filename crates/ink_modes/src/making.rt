@@ -2,7 +2,6 @@
 
 ghost use Rattle.std.specs.Prelude.{◌≡◌, ◌≤◌, length, Ok, IfOk, IfErr};
 ghost use Rattle.power_trace.specs.Parse.{job_at};
-ghost use Rattle.ink_io.specs.Whole.{job_limit};
 ghost use Rattle.ink_modes.specs.Form.{IsAllowed};
 ghost use Rattle.ink_modes.specs.modes.{form_of};
 ghost use Rattle.ink_modes.specs.Made.{OfText, GaveJob, Makes};
@@ -10,6 +9,7 @@ ghost use Rattle.ink_modes.specs.Answers.{StopsText, StopsReading, Stops};
 
 use crate::command::Command;
 use crate::finish::Record;
+use ink_base::limits::TEXT_BYTES;
 use ink_base::{JobAnswer, NoMemory, Status};
 use ink_io::{ReadAnswer, Source, read_job};
 use power_trace::{Job, parse_job, soak_job};
@@ -65,7 +65,7 @@ fn job_on<S: Source>(alloc: Global, source: &mut S) -> Result<Job, Status>
 
 // The job of a text. Refused where the text has a fault, with the first one.
 fn job_in(alloc: Global, text: &[u8]) -> Result<Job, Status>
-    requires { length text.now ≤ job_limit }
+    requires { length text.now ≤ TEXT_BYTES }
     ensures job { IfOk result (λ job. job_at text.now ≡ Ok job) }
     ensures stops { IfErr result (StopsText text.now) }
 {

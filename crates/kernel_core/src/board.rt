@@ -25,6 +25,7 @@ use crate::recording::Recording;
 use crate::run_record::{RunRecord, finished};
 use crate::start::Start;
 use fram_words::{Access, Fram};
+use ink_base::limits::TURNS;
 use ink_base::{Actor, Entry, SourceId};
 use ink_layout::{KernelPoint, Plan, write_first_image};
 use job_parts::{Charge, Job};
@@ -355,9 +356,9 @@ fn clear_records(charges: &mut Vec<Recording>)
 // The turns that a charge lists.
 pub(crate) fn turns_in(charges: &[Charge], k: usize) -> u64
     requires known { k < length charges.now }
-    requires few { charge_turns charges.now ≤ 4194304 }
+    requires few { charge_turns charges.now ≤ TURNS }
     ensures turns { result ≡ item_turns (slice_index_or charges.now k no_charge).items }
-    ensures few { result ≤ 4194304 }
+    ensures few { result ≤ TURNS }
 {
     let mut turns = 0;
     for item in charges[k].items.as_slice() {

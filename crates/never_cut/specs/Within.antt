@@ -1,6 +1,7 @@
 -- The bounds of a state that few entries lead to, and the readings that a board can have.
 use Rattle.std.specs.Prelude.{◌≡◌, ℕ, ◌+◌, ◌-◌, ◌*◌, ◌^◌, ◌<◌, ◌≤◌, Bool, true, false, length, slice_index, All, Some, None}
 use Rattle.std.specs.Option.{ForSome}
+use Rattle.ink_base.specs.declared.limits.TheConstants as limits
 use Rattle.ink_base.specs.declared.event.Event.{Event}
 use Rattle.ink_base.specs.declared.event.Origin.TheVariants as origins
 use Rattle.task_isa.specs.declared.program.Program.{Program}
@@ -15,11 +16,11 @@ use Rattle.never_cut.specs.Stands.{flag}
 -- one list of readings for each source, none of them too long
 pub record AreReadings (program : Program) (readings : Readings) : Type 0 where
   pub count : length readings ≡ length program.sources
-  pub few : (i : ℕ) → length (readings_of readings i) ≤ 65535
+  pub few : (i : ℕ) → length (readings_of readings i) ≤ limits.READINGS
 
 -- no list of readings is too long, and each reading has 32 bits
 pub record AreShort (readings : Readings) : Type 0 where
-  pub few : (i : ℕ) → length (readings_of readings i) ≤ 65535
+  pub few : (i : ℕ) → length (readings_of readings i) ≤ limits.READINGS
   pub values : (i k : ℕ) → slice_index (readings_of readings i) k < 2 ^ 32
 
 -- as many of each part as the program declares

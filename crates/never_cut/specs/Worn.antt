@@ -1,5 +1,6 @@
 -- Words that a run doesn't begin at since a number might run over: the cases in which an image is worn.
 use Rattle.std.specs.Prelude.{ℕ, zero, suc, ◌+◌, ◌^◌, ◌<◌, ◌≤◌, ◌==◌, if◌then◌else◌, List, length, slice_index}
+use Rattle.ink_base.specs.declared.limits.TheConstants as limits
 use Rattle.task_isa.specs.declared.program.Program.{Program}
 use Rattle.fram_words.specs.Places.{Memory, Clock}
 use Rattle.fram_words.specs.Header as header
@@ -18,7 +19,7 @@ listed_into program listed t (suc i) = listed_into program listed t i + (if sour
 -- An image is worn, with so many readings listed for each source, where one of these holds.
 pub data IsWorn (program : Program) (listed : List ℕ) (words : Memory) : Type 0 where
   -- a source has settled so many readings that those that are listed don't fit behind them
-  ManyReadings : (i : ℕ) → i < length program.sources → 65535 < (told_source program words i).next + slice_index listed i → IsWorn program listed words
+  ManyReadings : (i : ℕ) → i < length program.sources → limits.READINGS < (told_source program words i).next + slice_index listed i → IsWorn program listed words
   -- the clock has gone half its way
   LateClock : 2 ^ 46 ≤ words Clock → IsWorn program listed words
   -- a stamp, and so the number of commits, has half of its range behind it

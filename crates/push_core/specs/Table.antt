@@ -1,5 +1,6 @@
 -- The access table of a source: in each row one access, and the row that follows.
 use Rattle.std.specs.Prelude.{◌≡◌, ◌≢◌, ℕ, ◌+◌, ◌*◌, ◌/◌, ◌%◌, ◌^◌, ◌<◌, ◌≤◌, ◌==◌, ◌&&◌, ◌||◌, Bool, true, false, List, length, slice_index, nat_lt, if◌then◌else◌, Option, Some, None}
+use Rattle.ink_base.specs.declared.limits.TheConstants as limits
 use Rattle.ink_base.specs.declared.ids.SourceId.{SourceId}
 use Rattle.fram_words.specs.declared.access.Access.{Access}
 use Rattle.fram_words.specs.declared.access.Access.TheVariants.{Load, Store, Exchange}
@@ -159,7 +160,7 @@ pub record IsPort (port : Port) : Type 0 where
 
 -- at most 65,535 readings
 abbrev pub IsFew : List ℕ → Type 0
-IsFew readings = length readings ≤ 65535
+IsFew readings = length readings ≤ limits.READINGS
 
 -- a row's slot is one of the queue; where it has a tail, this is in its range and reading k is left
 abbrev pub FitsStage : (places number k : ℕ) → Stage → Type 0

@@ -10,6 +10,7 @@ use crate::slot::{empty, full};
 use crate::stage::Stage;
 use crate::steps::{after_ack, after_boot_slot, after_publish, after_slot, is_full_at, shows_own};
 use fram_words::{Access, read_src};
+use ink_base::limits::READINGS;
 
 /// A source's place in its access table: the number of its accepted events and its next reading, as far as it knows them (0 before
 /// it has loaded SRC), and the row.
@@ -90,7 +91,7 @@ impl Row {
 
     /// The row that follows, where the access found this word.
     pub(crate) fn following(self, port: Port, number: usize, word: u64) -> Row
-        requires few { number ≤ 65535 }
+        requires few { number ≤ READINGS }
         requires row { IsRowFor port number self }
         requires range { IsAnswer number self.stage word }
         ensures { result ≡ take_of port number self word }
@@ -139,7 +140,7 @@ impl Row {
 
     /// The row after SRC was stored with the next reading settled, and this number of accepted events.
     fn settled(self, accepted: u32) -> Row
-        requires { self.next < 65535 }
+        requires { self.next < READINGS }
         ensures { result ≡ row_at accepted (self.next + 1) LoadTail }
     {
         Row {

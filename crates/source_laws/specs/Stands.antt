@@ -1,5 +1,6 @@
 -- The words of queues and sources, where each source is in its table, and when the words stand for the never-cut kernel.
 use Rattle.std.specs.Prelude.{ℕ, ◌+◌, ◌^◌, ◌<◌, ◌≤◌, length, slice_index}
+use Rattle.ink_base.specs.declared.limits.TheConstants as limits
 use Rattle.fram_words.specs.Places.{Place, Tail, Ack, Src}
 use Rattle.fram_words.specs.Places as places
 use Rattle.push_core.specs.Queue.{Queue, Source, published, event_at, IsQueued, unsettled_into, StandsQueue, StandsSource}
@@ -10,7 +11,7 @@ use Rattle.push_core.specs.declared.row.Row.{Row}
 -- at most 16 sources, 65,535 readings of each, 32 bits in a reading, and from 1 to 32 places in a source's queue
 pub record IsWithin (board : Board) : Type 0 where
   pub sources : board.shape.sources ≤ 16
-  pub readings : (i : ℕ) → length (board.readings i) ≤ 65535
+  pub readings : (i : ℕ) → length (board.readings i) ≤ limits.READINGS
   pub values : (i k : ℕ) → slice_index (board.readings i) k < 2 ^ 32
   pub places : (i : ℕ) → i < board.shape.sources → 0 < places_for board i
   pub no_more : (t : ℕ) → board.places t ≤ 32
