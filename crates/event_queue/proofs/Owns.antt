@@ -1,12 +1,5 @@
 -- What a source has published is what its queue's entries have of it, in order.
-use Rattle.std.proofs.Common.{◌≡◌, inl, inr, ℕ, zero, suc, ◌%◌, ◌≤◌, cond, Bool, List, [], ◌∷◌, ◌++◌, length, take, append-nil, refl, sym, ap, ◌∙◌, subst, arith, eq-eqb, ne_eqb}
-use Rattle.std.proofs.lemmas.Bool.{cases_eq}
-use mathlib.Core.Option.{some, some-ne-none, some-injective}
-use lib.ListN.{get_elem?}
-use Rattle.event_queue.specs.Events.{Entry}
-use Rattle.event_queue.specs.Calls.{Won, Knows, won, won_below}
-use Rattle.event_queue.specs.Rule.{SourceKept}
-use Rattle.event_queue.specs.Finishes.{own_at, own_among}
+use Rattle.event_queue.proofs.Common.{◌≡◌, inl, inr, ℕ, zero, suc, ◌%◌, ◌≤◌, cond, Bool, List, [], ◌∷◌, ◌++◌, length, take, append-nil, refl, sym, ap, ◌∙◌, subst, arith, eq-eqb, ne_eqb, cases_eq, some, some-ne-none, some-injective, get_elem?, Entry, Won, Knows, won, won_below, SourceKept, own_at, own_among}
 use Rattle.event_queue.proofs.Basics.{below, element, same_element}
 use Rattle.event_queue.proofs.Acks.{Rises, won_below-none, won_below-all, won_below-at, won_below-here, won_below-skip}
 

@@ -1,18 +1,5 @@
 -- Each role stands once over all views.
-use Rattle.std.proofs.Common.{◌≡◌, ◌≢◌, inl, inr, ℕ, zero, suc, ◌+◌, ◌<◌, ◌≤◌, ◌==◌, cond, if◌then◌else◌, Bool, true, false, List, [], ◌∷◌, ◌++◌, length, length-append, length-set, set, refl, sym, ap, ◌∙◌, subst, arith, ⊎_elim, eq-eqb, ne_eqb, eqb-true}
-use Rattle.std.proofs.lemmas.Bool.{cases_eq}
-use mathlib.Core.Option.{some, some-ne-none, some-injective}
-use lib.ListN.{get_elem?}
-use Rattle.atomic_table.proofs.Lists.{at_set}
-use Rattle.event_queue.specs.declared.view.Part.{Part}
-use Rattle.event_queue.specs.declared.view.Role.{Role}
-use Rattle.event_queue.specs.declared.view.Role.TheVariants.{Kernel, Clock, Source}
-use Rattle.event_queue.specs.declared.view.Lay.{Lay}
-use Rattle.event_queue.specs.declared.view.Told.{Told}
-use Rattle.event_queue.specs.declared.view.View.{View}
-use Rattle.event_queue.specs.Views.{sole, joined, emptied, first_view, all_roles, sources_from}
-use Rattle.event_queue.specs.Rule.{Seats, seat_of, IsRole, same_role, times_in, times_left, times_of, StandsOnce}
-use Rattle.event_queue.specs.kept.Images.{maker}
+use Rattle.event_queue.proofs.Common.{◌≡◌, ◌≢◌, inl, inr, ℕ, zero, suc, ◌+◌, ◌<◌, ◌≤◌, ◌==◌, cond, if◌then◌else◌, Bool, true, false, List, [], ◌∷◌, ◌++◌, length, length-append, length-set, set, refl, sym, ap, ◌∙◌, subst, arith, ⊎_elim, eq-eqb, ne_eqb, eqb-true, cases_eq, some, some-ne-none, some-injective, get_elem?, at_set, Part, Role, Kernel, Clock, Source, Lay, Told, View, sole, joined, emptied, first_view, all_roles, sources_from, Seats, seat_of, IsRole, same_role, times_in, times_left, times_of, StandsOnce, maker}
 use Rattle.event_queue.proofs.Basics.{below, snoc_cases}
 use Rattle.event_queue.proofs.Seats.{seated, seated_here, seated_else}
 

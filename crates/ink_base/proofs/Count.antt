@@ -1,6 +1,5 @@
 -- The number of lines, counted from the front.
-use Rattle.std.proofs.Common.{◌≡◌, ℕ, suc, ◌+◌, Bool, true, false, cond, eqb, List, [], ◌∷◌, length, refl, arith}
-use Rattle.ink_base.specs.Lines.{onto_first, lines}
+use Rattle.ink_base.proofs.Common.{◌≡◌, ℕ, suc, ◌+◌, Bool, true, false, cond, eqb, List, [], ◌∷◌, length, refl, arith, onto_first, lines}
 
 -- the lines that begin in the rest, where fresh says that one begins at once
 abbrev pub more_lines : Bool → List ℕ → ℕ

@@ -1,9 +1,6 @@
 -- A loop that takes each item in turn, up to the first fault.
-use Rattle.std.proofs.Common.{◌≡◌, ℕ, ◌+◌, ◌<◌, ◌≤◌, List, [], ◌∷◌, ◌++◌, length, get_or, drop, Result, Ok, Err, refl, sym, ap, ◌∙◌, append_assoc, append-nil}
-use Rattle.std.proofs.lemmas.List.{drop_more, drop_all}
-use Rattle.ink_base.specs.declared.fault.JobFault.{JobFault}
-use Rattle.ink_base.specs.declared.fault.JobAnswer.{JobAnswer}
-use Rattle.ink_base.specs.Gives.{◌>>◌, Answers, each}
+use Rattle.ink_base.proofs.Common.{◌≡◌, ℕ, ◌+◌, ◌<◌, ◌≤◌, List, [], ◌∷◌, ◌++◌, length, get_or, drop, Result, Ok, Err, refl, sym, ap, ◌∙◌, append_assoc, append-nil, drop_more, drop_all, JobFault, JobAnswer, ◌>>◌, Answers}
+use Rattle.ink_base.specs.Gives.{each}
 use Rattle.ink_base.specs.declared.fault.JobAnswer.TheVariants as answers
 use Rattle.ink_base.proofs.Failing.{Answers-same}
 

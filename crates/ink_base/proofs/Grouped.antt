@@ -1,11 +1,5 @@
 -- The first line that tokens make up.
-use Rattle.std.proofs.Common.{◌≡◌, ℕ, suc, ◌+◌, ◌<◌, ◌≤◌, true, false, eqb, List, [], ◌∷◌, length, get_or, take, drop, refl, sym, ap, ◌∙◌, inl, inr, arith, eq-eqb, eqb-true, ne_eqb}
-use Rattle.std.specs.List.{prefix_len}
-use Rattle.std.proofs.lemmas.Bool.{eqb-false, cases_Bool, cond_both}
-use Rattle.ink_base.specs.Lines.{Line}
-use Rattle.ink_base.specs.Tokens.{entry_of}
-use Rattle.ink_base.specs.declared.token.Token.{Token}
-use Rattle.ink_base.specs.TokenLines.{join, token_lines}
+use Rattle.ink_base.proofs.Common.{◌≡◌, ℕ, suc, ◌+◌, ◌<◌, ◌≤◌, true, false, eqb, List, [], ◌∷◌, length, get_or, take, drop, refl, sym, ap, ◌∙◌, inl, inr, arith, eq-eqb, eqb-true, ne_eqb, prefix_len, eqb-false, cases_Bool, cond_both, Line, entry_of, Token, join, token_lines}
 use Rattle.ink_base.specs.Checks.{words_of}
 
 abbrev pub line_prefix : ℕ → List Token → ℕ

@@ -1,3 +1,4 @@
+mod Common
 pub mod Count
 pub mod Walk
 pub mod Loop

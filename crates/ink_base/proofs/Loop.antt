@@ -1,11 +1,5 @@
 -- The walk's loop: what it keeps.
-use Rattle.std.proofs.Common.{inl, inr, ◌≡◌, ℕ, ◌+◌, ◌-◌, ◌<◌, ◌≤◌, false, cond, eqb, List, [], ◌∷◌, ◌++◌, length, get_or, map, take, drop, slice_range, refl, sym, ap, subst, ◌∙◌, append_assoc, arith, Option, Some, None, le-leb, append-nil, take_all, take-append-drop, get_or-drop, length-append, length-take, length-drop}
-use Rattle.std.proofs.lemmas.Bool.{cases_Bool, cases_lt, cond_both}
-use Rattle.std.proofs.lemmas.List.{map-append, take_more, get_or_append_left, get_or_push, length-map}
-use Rattle.ink_base.specs.declared.token.Token.{Token}
-use Rattle.ink_base.specs.Lines.{is_blank}
-use Rattle.ink_base.specs.Tokens.{entry_of, all_entries, line_number, StandsBehind}
-use Rattle.ink_base.specs.Walk.{ends_word, closed, place_after}
+use Rattle.ink_base.proofs.Common.{inl, inr, ◌≡◌, ℕ, ◌+◌, ◌-◌, ◌<◌, ◌≤◌, false, cond, eqb, List, [], ◌∷◌, ◌++◌, length, get_or, map, take, drop, slice_range, refl, sym, ap, subst, ◌∙◌, append_assoc, arith, Option, Some, None, le-leb, append-nil, take_all, take-append-drop, get_or-drop, length-append, length-take, length-drop, cases_Bool, cases_lt, cond_both, map-append, take_more, get_or_append_left, get_or_push, length-map, Token, is_blank, entry_of, all_entries, line_number, StandsBehind, ends_word, closed, place_after}
 use Rattle.std.specs.List.{slice_range}
 use Rattle.std.proofs.Math.Seq.{take-append_seam}
 use Rattle.std.proofs.lemmas.List.Sums.{count_by_more_yes, count_by_more_no}

@@ -1,11 +1,5 @@
 -- A text has no more lines than bytes, and no more words.
-use Rattle.std.proofs.Common.{◌≡◌, ℕ, ◌+◌, ◌≤◌, eqb, List, [], ◌∷◌, length, map, ap, arith, length-append, inl, inr}
-use Rattle.std.specs.List.{flat_map}
-use Rattle.std.proofs.lemmas.List.{length-map}
-use Rattle.std.proofs.lemmas.Bool.{cases_Bool}
-use Rattle.ink_base.specs.Lines.{Word, onto_first, lines, before_comment, is_blank, begins_blank, words, numbered}
-use Rattle.ink_base.specs.Tokens.{Entry, entry_of, entries, AreTokens}
-use Rattle.ink_base.specs.declared.token.Token.{Token}
+use Rattle.ink_base.proofs.Common.{◌≡◌, ℕ, ◌+◌, ◌≤◌, eqb, List, [], ◌∷◌, length, map, ap, arith, length-append, inl, inr, flat_map, length-map, cases_Bool, Word, onto_first, lines, before_comment, is_blank, begins_blank, words, numbered, Entry, entry_of, entries, AreTokens, Token}
 
 onto_le : (x : ℕ) (ls : List (List ℕ)) → length (onto_first x ls) ≤ length ls + 1
 onto_le x [] = omega arith

@@ -1,5 +1,5 @@
 -- The end of a list, one part after another.
-use Rattle.std.proofs.Common.{◌≡◌, ℕ, ◌+◌, ◌-◌, ◌≤◌, List, length, drop, sym, ap, ◌∙◌, arith, length-drop, drop-drop}
+use Rattle.ink_base.proofs.Common.{◌≡◌, ℕ, ◌+◌, ◌-◌, ◌≤◌, List, length, drop, sym, ap, ◌∙◌, arith, length-drop, drop-drop}
 use Rattle.ink_base.specs.Suffix.{IsSuffix}
 
 none : (n : ℕ) → n - n ≡ 0

@@ -1,11 +1,5 @@
 -- What a walk over a text still has to give, and how one byte changes it.
-use Rattle.std.proofs.Common.{◌≡◌, ℕ, ◌+◌, Bool, true, false, cond, eqb, List, [], ◌∷◌, ◌++◌, map, refl, ap, ◌∙◌, append_assoc, Option, Some, None, append-nil}
-use Rattle.std.specs.List.{flat_map, AllByRecursion}
-use Rattle.std.proofs.lemmas.Bool.{or_parts}
-use Rattle.std.proofs.lemmas.List.{map-append}
-use Rattle.ink_base.specs.Lines.{Word, onto_first, lines, before_comment, is_blank, words, numbered}
-use Rattle.ink_base.specs.Tokens.{Entry, entries}
-use Rattle.ink_base.specs.Walk.{ends_word}
+use Rattle.ink_base.proofs.Common.{◌≡◌, ℕ, ◌+◌, Bool, true, false, cond, eqb, List, [], ◌∷◌, ◌++◌, map, refl, ap, ◌∙◌, append_assoc, Option, Some, None, append-nil, flat_map, AllByRecursion, or_parts, map-append, Word, onto_first, lines, before_comment, is_blank, words, numbered, Entry, entries, ends_word}
 
 -- the rest of the line, and what comes after it
 abbrev pub first_line : List ℕ → List ℕ

@@ -1,10 +1,5 @@
 -- The lines of a text, from its words.
-use Rattle.std.proofs.Common.{◌≡◌, ℕ, ◌+◌, ◌<◌, cond, List, [], ◌∷◌, ◌++◌, map, refl, ap, ◌∙◌, arith, eq-eqb, ne_eqb}
-use Rattle.std.specs.List.{flat_map}
-use Rattle.ink_base.specs.Lines.{Word, Line, lines, words, before_comment, numbered, lines_of}
-use Rattle.ink_base.specs.Tokens.{Entry, entries, all_entries, AreTokens}
-use Rattle.ink_base.specs.TokenLines.{join, grouped, has_words, with_words, token_lines}
-use Rattle.ink_base.specs.declared.token.Token.{Token}
+use Rattle.ink_base.proofs.Common.{◌≡◌, ℕ, ◌+◌, ◌<◌, cond, List, [], ◌∷◌, ◌++◌, map, refl, ap, ◌∙◌, arith, eq-eqb, ne_eqb, flat_map, Word, Line, lines, words, before_comment, numbered, lines_of, Entry, entries, all_entries, AreTokens, join, grouped, has_words, with_words, token_lines, Token}
 
 -- the first line has a greater number
 abbrev Above : ℕ → List Line → Type 0

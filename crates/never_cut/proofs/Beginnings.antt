@@ -1,16 +1,5 @@
 -- What the state tells of the pending event of an idle thread.
-use Rattle.std.proofs.Common.{◌≡◌, ℕ, zero, suc, ◌+◌, ◌%◌, ◌^◌, ◌<◌, ◌≤◌, Bool, true, false, List, [], ◌∷◌, length, drop, Option, Some, None, refl, sym, ap, ◌∙◌, subst, arith, ◌==◌, ◌&&◌, nat_lt, slice_index, if◌then◌else◌, eqb-true, ltb-true, leb-true}
-use Rattle.ink_base.specs.declared.event.Event.{Event}
-use Rattle.ink_base.specs.declared.event.Origin.{Origin}
-use Rattle.task_isa.specs.declared.program.Program.{Program}
-use Rattle.prog_check.specs.Lookup.{pipe_def, timer_def}
-use Rattle.never_cut.specs.declared.model.Model.{Model}
-use Rattle.never_cut.specs.declared.scan_model.ScanModel.{ScanModel}
-use Rattle.never_cut.specs.State.{thread_of, pipe_of, timer_of, is_looked, unfinished}
-use Rattle.never_cut.specs.Pending.{first_number, first_of, has_item, has_due, is_due_by, item_event, timer_event, due_event, later_event, pending}
-use Rattle.push_core.specs.Queue.{event_at}
-use Rattle.never_cut.specs.Sound.{IsQueued}
-use Rattle.never_cut.specs.kept.Actors.{IsFirstHeld}
+use Rattle.never_cut.proofs.Common.{◌≡◌, ℕ, zero, suc, ◌+◌, ◌%◌, ◌^◌, ◌<◌, ◌≤◌, Bool, true, false, List, [], ◌∷◌, length, drop, Option, Some, None, refl, sym, ap, ◌∙◌, subst, arith, ◌==◌, ◌&&◌, nat_lt, slice_index, if◌then◌else◌, eqb-true, ltb-true, leb-true, Event, Origin, Program, pipe_def, timer_def, Model, ScanModel, thread_of, pipe_of, timer_of, is_looked, unfinished, first_number, first_of, has_item, has_due, is_due_by, item_event, timer_event, due_event, later_event, pending, event_at, IsQueued, IsFirstHeld}
 use Rattle.ink_base.specs.declared.event.Origin.TheVariants as origins
 use Rattle.never_cut.proofs.Timely.{first_number_holds, and_right}
 use Rattle.never_cut.proofs.Picks.{pending-idle}

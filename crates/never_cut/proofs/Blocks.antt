@@ -1,17 +1,6 @@
 -- What the words of a committed copy say.
-use Rattle.std.proofs.Common.{◌≡◌, ℕ, zero, suc, ◌+◌, ◌-◌, ◌<◌, ◌≤◌, List, [], ◌∷◌, length, take, replicate, Some, arith, refl, ◌∙◌, ◌==◌, ◌&&◌, if◌then◌else◌, nat_lt, slice_index, lt-ltb, eq-eqb}
-use Rattle.std.proofs.lemmas.List.{get_or_append_left, get_or-append_right, get_or-replicate}
-use Rattle.ink_base.specs.declared.event.Event.{Event}
-use Rattle.task_isa.specs.declared.program.Program.{Program}
-use Rattle.fram_words.specs.Places.{Memory}
-use Rattle.fram_words.specs.Held.{next_word, origin_word, due_word}
-use Rattle.thread_state.specs.Pages.{committed}
-use Rattle.prog_check.specs.Accepted.{IsAccepted}
-use Rattle.prog_check.specs.Lookup.{pipe_def, timer_def}
-use Rattle.never_cut.specs.declared.model.Model.{Model}
-use Rattle.never_cut.specs.State.{thread_of, pipe_of, timer_of}
-use Rattle.never_cut.specs.Commit.{outputs_of}
-use Rattle.never_cut.specs.Stands.{Saved, saved, flag, StandsPrivate, thread_words}
+use Rattle.never_cut.proofs.Common.{◌≡◌, ℕ, zero, suc, ◌+◌, ◌-◌, ◌<◌, ◌≤◌, List, [], ◌∷◌, length, take, replicate, Some, arith, refl, ◌∙◌, ◌==◌, ◌&&◌, if◌then◌else◌, nat_lt, slice_index, lt-ltb, eq-eqb, get_or_append_left, get_or-append_right, get_or-replicate, Event, Program, Memory, next_word, origin_word, due_word, committed, IsAccepted, pipe_def, timer_def, Model, thread_of, pipe_of, timer_of, outputs_of, Saved, saved, flag, StandsPrivate}
+use Rattle.never_cut.specs.Stands.{thread_words}
 use Rattle.fram_words.specs.Header as header
 
 -- what holds of each number below 8 holds of a number below 8

@@ -1,24 +1,5 @@
 -- The parts of a state stay within their bounds.
-use Rattle.std.proofs.Common.{◌≡◌, ℕ, ◌+◌, ◌<◌, ◌≤◌, true, false, List, [], ◌∷◌, length, get_or, set, inl, inr, refl, sym, ◌∙◌, subst, arith, if◌then◌else◌, slice_index_or, get_or-set_other, length-set}
-use Rattle.std.proofs.lemmas.Bool.{cases_eq, cases_lt}
-use Rattle.std.proofs.lemmas.Grind.{get_or-set_at}
-use Rattle.std.proofs.lemmas.List.{set_past}
-use Rattle.std.proofs.lemmas.List.Elements.{All-append, All-drop}
-use Rattle.ink_base.specs.declared.ids.TaskId.{TaskId}
-use Rattle.ink_base.specs.declared.event.Event.{Event}
-use Rattle.ink_base.specs.declared.event.Origin.{Origin}
-use Rattle.task_isa.specs.declared.outcome.Outcome.{Outcome}
-use Rattle.task_isa.specs.declared.program.Program.{Program}
-use Rattle.task_isa.specs.declared.sent.Sent.{Sent}
-use Rattle.task_isa.specs.declared.timer_set.TimerSet.{TimerSet}
-use Rattle.task_isa.proofs.Nexts.{EndsBelow}
-use Rattle.never_cut.specs.declared.thread_model.ThreadModel.{ThreadModel}
-use Rattle.never_cut.specs.declared.pipe_model.PipeModel.{PipeModel}
-use Rattle.never_cut.specs.declared.timer_model.TimerModel.{TimerModel}
-use Rattle.never_cut.specs.State.{is_running, no_pipe, no_timer}
-use Rattle.never_cut.specs.Commit.{expired_after, is_of_queue, moved_on, set_by, taken_from, thread_after, with_first, with_item, with_sends, with_timers}
-use Rattle.never_cut.specs.Entries.{pushed, released}
-use Rattle.never_cut.specs.Within.{IsWithinThread}
+use Rattle.never_cut.proofs.Common.{◌≡◌, ℕ, ◌+◌, ◌<◌, ◌≤◌, true, false, List, [], ◌∷◌, length, get_or, set, inl, inr, refl, sym, ◌∙◌, subst, arith, if◌then◌else◌, slice_index_or, get_or-set_other, length-set, cases_eq, cases_lt, get_or-set_at, set_past, All-append, All-drop, TaskId, Event, Origin, Outcome, Program, Sent, TimerSet, EndsBelow, ThreadModel, PipeModel, TimerModel, is_running, no_pipe, no_timer, expired_after, is_of_queue, moved_on, set_by, taken_from, thread_after, with_first, with_item, with_sends, with_timers, pushed, released, IsWithinThread}
 use Rattle.ink_base.specs.declared.event.Origin.TheVariants as origins
 use Rattle.task_isa.specs.declared.outcome.Outcome.TheVariants as outcomes
 

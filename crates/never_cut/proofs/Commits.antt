@@ -1,17 +1,6 @@
 -- What a commit changes: its thread, the pipes, the timers, the outputs, the number of commits and the scan.
-use Rattle.std.proofs.Common.{◌≡◌, ◌≢◌, ℕ, ◌+◌, ◌<◌, Bool, true, false, cond, List, [], ◌++◌, length, Option, Some, None, refl, sym, ap, ◌∙◌, length-set, get_or-set_same, get_or-set_other, if◌then◌else◌, IsSome, append-nil}
-use Rattle.ink_base.specs.declared.ids.ThreadId.{ThreadId}
-use Rattle.ink_base.specs.declared.event.Event.{Event}
-use Rattle.ink_base.specs.declared.entry.Entry.TheVariants.{Commit}
-use Rattle.task_isa.specs.declared.program.Program.{Program}
-use Rattle.never_cut.specs.declared.model.Model.{Model}
-use Rattle.never_cut.specs.declared.scan_model.ScanModel.{ScanModel}
-use Rattle.never_cut.specs.declared.thread_model.ThreadModel.{ThreadModel}
-use Rattle.never_cut.specs.State.{thread_of, is_running, no_thread}
-use Rattle.never_cut.specs.Pending.{pending}
-use Rattle.never_cut.specs.Outputs.{stamped}
-use Rattle.never_cut.specs.Commit.{commit, expired, expired_after, ended, end_at, consumed, is_expired, thread_after, with_first, committed}
-use Rattle.never_cut.specs.Entries.{Readings, Legal, ArePassed}
+use Rattle.never_cut.proofs.Common.{◌≡◌, ◌≢◌, ℕ, ◌+◌, ◌<◌, Bool, true, false, cond, List, [], ◌++◌, length, Option, Some, None, refl, sym, ap, ◌∙◌, length-set, get_or-set_same, get_or-set_other, if◌then◌else◌, IsSome, append-nil, ThreadId, Event, Commit, Program, Model, ScanModel, ThreadModel, thread_of, is_running, no_thread, pending, stamped, commit, expired, expired_after, ended, end_at, consumed, is_expired, thread_after, with_first, Readings, Legal, ArePassed}
+use Rattle.never_cut.specs.Commit.{committed}
 
 -- the thread after its service was committed
 abbrev pub thread_committed : Program → ℕ → Event → ℕ → Model → ThreadModel

@@ -1,12 +1,5 @@
 -- The costs of two services and the bounds of a program, counted by hand beside the definitions.
-use Rattle.std.proofs.Common.{◌≡◌, ℕ, List, [], ◌∷◌, None, refl}
-use Rattle.ink_base.specs.declared.entry.Entry.TheVariants.{Push, Scan}
-use Rattle.task_isa.specs.declared.instr.Instr.{Instr}
-use Rattle.task_isa.specs.declared.instr.Instr.TheVariants.{Li, Add, Divu, Ev, Ld, St, Out, Done}
-use Rattle.task_isa.specs.declared.program.Program.{Program}
-use Rattle.never_cut.specs.declared.model.Model.{Model}
-use Rattle.never_cut.specs.State.{open_model}
-use Rattle.never_cut.specs.Journal.{after}
+use Rattle.never_cut.proofs.Common.{◌≡◌, ℕ, List, [], ◌∷◌, None, refl, Push, Scan, Instr, Li, Add, Divu, Ev, Ld, St, Out, Done, Program, Model, open_model, after}
 use Rattle.task_isa.specs.Acts.{act_of}
 use Rattle.never_cut.specs.Cost.{cost}
 use Rattle.never_cut.specs.Bounds.{boot_bound, round_bound}

@@ -1,8 +1,5 @@
 -- A thread has no more outputs than there are.
-use Rattle.std.proofs.Common.{ℕ, ◌≤◌, List, length, arith, ◌==◌}
-use Rattle.std.proofs.lemmas.List.Sums.{length-filter, count_by-le-length}
-use Rattle.ink_base.specs.declared.output.Output.{Output}
-use Rattle.never_cut.specs.Outputs.{outputs_in}
+use Rattle.never_cut.proofs.Common.{ℕ, ◌≤◌, List, length, arith, ◌==◌, length-filter, count_by-le-length, Output, outputs_in}
 
 pub length-outputs_in : (t : ℕ) (outputs : List Output) → length (outputs_in t outputs) ≤ length outputs
 length-outputs_in t outputs =

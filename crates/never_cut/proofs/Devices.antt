@@ -1,19 +1,5 @@
 -- Pipes and timers by their words are those of the state.
-use Rattle.std.proofs.Common.{◌≡◌, inl, inr, ℕ, ◌+◌, ◌-◌, ◌%◌, ◌<◌, ◌==◌, ◌&&◌, Bool, true, false, length, Option, Some, None, refl, sym, ap, ◌∙◌, subst, arith, nat_lt, nat_le, if◌then◌else◌, slice_index, eq-eqb, lt-ltb, le-ltb}
-use Rattle.std.proofs.lemmas.Bool.{cases_lt}
-use Rattle.task_isa.specs.declared.program.Program.{Program}
-use Rattle.task_isa.specs.declared.timer_set.TimerSet.{TimerSet}
-use Rattle.fram_words.specs.Places.{Memory, Ring}
-use Rattle.fram_words.specs.Held.{due_word}
-use Rattle.prog_check.specs.Accepted.{IsAccepted}
-use Rattle.prog_check.specs.Lookup.{pipe_def, timer_def}
-use Rattle.never_cut.specs.declared.model.Model.{Model}
-use Rattle.never_cut.specs.declared.timer_model.TimerModel.{TimerModel}
-use Rattle.never_cut.specs.State.{pipe_of, timer_of}
-use Rattle.never_cut.specs.Pending.{is_due_by}
-use Rattle.never_cut.specs.Commit.{next_due, set_by}
-use Rattle.never_cut.specs.Stands.{StandsPrivate}
-use Rattle.never_cut.specs.Image.{taken_of, written_of}
+use Rattle.never_cut.proofs.Common.{◌≡◌, inl, inr, ℕ, ◌+◌, ◌-◌, ◌%◌, ◌<◌, ◌==◌, ◌&&◌, Bool, true, false, length, Option, Some, None, refl, sym, ap, ◌∙◌, subst, arith, nat_lt, nat_le, if◌then◌else◌, slice_index, eq-eqb, lt-ltb, le-ltb, cases_lt, Program, TimerSet, Memory, Ring, due_word, IsAccepted, pipe_def, timer_def, Model, TimerModel, pipe_of, timer_of, is_due_by, next_due, set_by, StandsPrivate, taken_of, written_of}
 use Rattle.persist_timer.specs.Due as timers
 use Rattle.never_cut.specs.Devices.{IsPipeTold, IsTimerTold, EveryDeviceTold, due_of_timer, period_of_timer}
 use Rattle.never_cut.proofs.Blocks.{first_word, taken_count, written_count, timer_count, period_count}

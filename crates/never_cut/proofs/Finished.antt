@@ -1,21 +1,5 @@
 -- At most one thread has a finished event, from one legal entry to the next.
-use Rattle.std.proofs.Common.{◌≡◌, ◌≢◌, ℕ, ◌<◌, true, false, length, Option, Some, None, refl, ap, ◌∙◌, sym, inl, inr}
-use Rattle.std.specs.Option.{ForSome}
-use Rattle.std.proofs.lemmas.Bool.{cases_eq}
-use Rattle.ink_base.specs.declared.entry.Entry.{Entry}
-use Rattle.ink_base.specs.declared.entry.Entry.TheVariants.{Push, Refuse, Skip, Tick, Scan, Look, Commit, Release}
-use Rattle.task_isa.specs.declared.program.Program.{Program}
-use Rattle.prog_check.specs.Lookup.{source_thread}
-use Rattle.prog_check.specs.Accepted.{IsAccepted}
-use Rattle.never_cut.specs.declared.model.Model.{Model}
-use Rattle.never_cut.specs.declared.scan_model.ScanModel.{ScanModel}
-use Rattle.never_cut.specs.declared.thread_model.ThreadModel.{ThreadModel}
-use Rattle.never_cut.specs.State.{thread_of}
-use Rattle.never_cut.specs.Entries.{Readings, Legal, effect, IsCalm, ArePassed, pushed, fed_by, next_event}
-use Rattle.never_cut.specs.Journal.{moved, MayNote}
-use Rattle.never_cut.specs.Sound.{IsSound}
-use Rattle.never_cut.specs.kept.Actors.{Follows}
-use Rattle.never_cut.specs.Finished.{AtMostOneFinished}
+use Rattle.never_cut.proofs.Common.{◌≡◌, ◌≢◌, ℕ, ◌<◌, true, false, length, Option, Some, None, refl, ap, ◌∙◌, sym, inl, inr, ForSome, cases_eq, Entry, Push, Refuse, Skip, Tick, Scan, Look, Commit, Release, Program, source_thread, IsAccepted, Model, ScanModel, ThreadModel, thread_of, Readings, Legal, effect, IsCalm, ArePassed, pushed, fed_by, next_event, moved, MayNote, IsSound, Follows, AtMostOneFinished}
 use Rattle.never_cut.proofs.Follows.{follow_finished}
 use Rattle.never_cut.proofs.Releases.{after_release, release_other, release_calm}
 use Rattle.never_cut.proofs.SoundQueues.{thread_changes}

@@ -1,22 +1,7 @@
 -- The first image stands for the state at the start.
-use Rattle.std.proofs.Common.{◌≡◌, inl, inr, ℕ, zero, suc, ◌+◌, ◌-◌, ◌*◌, ◌/◌, ◌%◌, ◌<◌, ◌≤◌, ◌==◌, ◌&&◌, ◌++◌, Bool, true, false, cond, List, [], ◌∷◌, length, map, replicate, get_or, slice_index, Some, None, refl, sym, ap, ◌∙◌, subst, arith, nat_lt, nat_le, if◌then◌else◌, le-ltb}
-use Rattle.std.proofs.lemmas.Bool.{cases_lt}
-use Rattle.std.proofs.lemmas.List.{length-replicate, get_or-replicate, get_or_past}
-use Rattle.std.proofs.lemmas.List.Elements.{All-nil}
-use Rattle.ink_base.specs.declared.output.Output.{Output}
-use Rattle.fram_words.specs.Places.{Place, Code, Page, Commit}
-use Rattle.fram_words.specs.Held.{due_word}
-use Rattle.thread_state.specs.Pages.{place_in}
-use Rattle.task_isa.specs.declared.program.Program.{Program}
-use Rattle.task_isa.specs.declared.program.ThreadDef.{ThreadDef}
-use Rattle.prog_check.specs.Lookup.{thread_def, no_thread_def, timer_def, no_timer_def, pipe_def, no_pipe_def}
-use Rattle.prog_check.specs.Accepted.{IsAccepted}
-use Rattle.ink_layout.specs.Shape.{shape_of, pages_of, thread_shape}
-use Rattle.never_cut.specs.declared.thread_model.ThreadModel.{ThreadModel}
-use Rattle.never_cut.specs.declared.pipe_model.PipeModel.{PipeModel}
-use Rattle.never_cut.specs.declared.timer_model.TimerModel.{TimerModel}
-use Rattle.never_cut.specs.State.{thread_of, pipe_of, timer_of, open_model, open_thread, open_pipe, open_timer, no_pipe}
-use Rattle.never_cut.specs.Stands.{Saved, saved, flag, written_word, taken_word, timer_word, period_word, StandsThread, StandsPrivate, thread_words}
+use Rattle.never_cut.proofs.Common.{◌≡◌, inl, inr, ℕ, zero, suc, ◌+◌, ◌-◌, ◌*◌, ◌/◌, ◌%◌, ◌<◌, ◌≤◌, ◌==◌, ◌&&◌, ◌++◌, Bool, true, false, cond, List, [], ◌∷◌, length, map, replicate, get_or, slice_index, Some, None, refl, sym, ap, ◌∙◌, subst, arith, nat_lt, nat_le, if◌then◌else◌, le-ltb, cases_lt, length-replicate, get_or-replicate, get_or_past, All-nil, Output, Place, Code, Page, due_word, place_in, Program, ThreadDef, thread_def, no_thread_def, timer_def, no_timer_def, pipe_def, no_pipe_def, IsAccepted, shape_of, pages_of, thread_shape, ThreadModel, PipeModel, TimerModel, thread_of, pipe_of, timer_of, open_model, open_thread, open_pipe, open_timer, no_pipe, Saved, saved, flag, written_word, taken_word, timer_word, period_word, StandsThread, StandsPrivate}
+use Rattle.fram_words.specs.Places.{Commit}
+use Rattle.never_cut.specs.Stands.{thread_words}
 use Rattle.std.specs.Int.{bit_at}
 use Rattle.std.proofs.Math.ListN.{get_or-map}
 use Rattle.std.proofs.lemmas.Nat.Bits.{bit_at-lt}

@@ -1,6 +1,5 @@
 -- Searches among numbers that go on behind one.
-use Rattle.std.proofs.Common.{◌≡◌, ℕ, suc, ◌+◌, ◌-◌, ◌<◌, Bool, true, false, refl, sym, ◌∙◌, arith, Some}
-use Rattle.never_cut.specs.Pending.{first_number}
+use Rattle.never_cut.proofs.Common.{◌≡◌, ℕ, suc, ◌+◌, ◌-◌, ◌<◌, Bool, true, false, refl, sym, ◌∙◌, arith, Some, first_number}
 
 pub first_number_skips : (test : ℕ → Bool) (at left more : ℕ) → left ≡ suc more → test at ≡ false → first_number test at left ≡ first_number test (at + 1) more
 first_number_skips test at left more count fails = rw (count, fails) refl

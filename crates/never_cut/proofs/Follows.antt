@@ -1,24 +1,5 @@
 -- What the accesses of the other actors leave as it is.
-use Rattle.std.proofs.Common.{◌≡◌, inl, inr, ℕ, ◌+◌, ◌<◌, ◌≤◌, ◌==◌, cond, List, [], ◌∷◌, ◌++◌, length, get_or, set, refl, sym, ap, ◌∙◌, subst, arith, eq-eqb, ne_eqb, append-nil, length-set}
-use Rattle.std.proofs.lemmas.Bool.{cases_eq}
-use Rattle.ink_base.specs.declared.event.Event.{Event}
-use Rattle.ink_base.specs.declared.output.Output.{Output}
-use Rattle.ink_base.specs.declared.entry.Entry.{Entry}
-use Rattle.ink_base.specs.declared.entry.Entry.TheVariants.{Push, Refuse, Skip, Tick, Scan, Look, Commit, Release}
-use Rattle.task_isa.specs.declared.program.Program.{Program}
-use Rattle.fram_words.specs.Places.{Memory}
-use Rattle.prog_check.specs.Accepted.{IsAccepted}
-use Rattle.prog_check.specs.Lookup.{source_thread}
-use Rattle.never_cut.specs.declared.model.Model.{Model}
-use Rattle.never_cut.specs.declared.thread_model.ThreadModel.{ThreadModel}
-use Rattle.never_cut.specs.declared.pipe_model.PipeModel.{PipeModel}
-use Rattle.never_cut.specs.declared.timer_model.TimerModel.{TimerModel}
-use Rattle.never_cut.specs.declared.source_model.SourceModel.{SourceModel}
-use Rattle.never_cut.specs.State.{thread_of, source_of, no_thread, with_thread, with_source}
-use Rattle.never_cut.specs.Entries.{Readings, IsCalm, Legal, effect, pushed, next_event, with_accepted, with_refused, with_skipped}
-use Rattle.never_cut.specs.Sound.{IsSound}
-use Rattle.never_cut.specs.Stands.{flag, StandsPrivate}
-use Rattle.never_cut.specs.kept.Actors.{SamePrivate, IsOther, Follows, IsFirstHeld, IsFinishing, without_held}
+use Rattle.never_cut.proofs.Common.{◌≡◌, inl, inr, ℕ, ◌+◌, ◌<◌, ◌≤◌, ◌==◌, cond, List, [], ◌∷◌, ◌++◌, length, get_or, set, refl, sym, ap, ◌∙◌, subst, arith, eq-eqb, ne_eqb, append-nil, length-set, cases_eq, Event, Output, Entry, Push, Refuse, Skip, Tick, Scan, Look, Commit, Release, Program, Memory, IsAccepted, source_thread, Model, ThreadModel, PipeModel, TimerModel, SourceModel, thread_of, source_of, no_thread, with_thread, with_source, Readings, IsCalm, Legal, effect, pushed, next_event, with_accepted, with_refused, with_skipped, IsSound, flag, StandsPrivate, SamePrivate, IsOther, Follows, IsFirstHeld, IsFinishing, without_held}
 use Rattle.never_cut.proofs.Privates.{SamePrivately, private_stays, blocks_same}
 use Rattle.never_cut.proofs.Releases.{saved_by}
 use Rattle.never_cut.proofs.Threads.{thread_of-with_same, thread_of-with_other}

@@ -1,17 +1,5 @@
 -- An image that isn't worn stands for the state that is read off it, and a run can begin there.
-use Rattle.std.proofs.Common.{◌≡◌, ℕ, ◌<◌, List, length, sym, ap, subst, arith}
-use Rattle.ink_base.specs.declared.event.Event.{Event}
-use Rattle.task_isa.specs.declared.program.Program.{Program}
-use Rattle.fram_words.specs.Places.{Memory, Tail, Ack, Src}
-use Rattle.push_core.specs.Queue.{Queue, Source, StandsQueue, StandsSource, KeepsNumbers}
-use Rattle.prog_check.specs.Accepted.{IsAccepted}
-use Rattle.prog_check.specs.Lookup.{thread_def, source_thread}
-use Rattle.never_cut.specs.declared.model.Model.{Model}
-use Rattle.never_cut.specs.State.{thread_of, source_of, queue_of, source_in}
-use Rattle.never_cut.specs.Stands.{StandsShared, slots_of}
-use Rattle.never_cut.specs.ReadOff.{told_held, IsReadOff}
-use Rattle.never_cut.specs.Image.{IsImage}
-use Rattle.never_cut.specs.Images.{KeepTheirNumbers, EveryImageStands}
+use Rattle.never_cut.proofs.Common.{◌≡◌, ℕ, ◌<◌, List, length, sym, ap, subst, arith, Event, Program, Memory, Tail, Ack, Src, Queue, Source, StandsQueue, StandsSource, KeepsNumbers, IsAccepted, thread_def, source_thread, Model, thread_of, source_of, queue_of, source_in, StandsShared, slots_of, told_held, IsReadOff, IsImage, KeepTheirNumbers, EveryImageStands}
 use Rattle.never_cut.proofs.SoundStates.{published_bound}
 use Rattle.never_cut.proofs.ReadQueues.{queue_read}
 use Rattle.never_cut.proofs.ReadSources.{source_read, source_keeps}

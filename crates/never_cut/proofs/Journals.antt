@@ -1,10 +1,5 @@
 -- A journal grows at its end.
-use Rattle.std.proofs.Common.{◌≡◌, List, [], ◌∷◌, ◌++◌, Option, Some, None, refl}
-use Rattle.ink_base.specs.declared.entry.Entry.{Entry}
-use Rattle.task_isa.specs.declared.program.Program.{Program}
-use Rattle.never_cut.specs.declared.model.Model.{Model}
-use Rattle.never_cut.specs.Entries.{Readings, Legal, effect}
-use Rattle.never_cut.specs.Journal.{after, IsLegal, noted, moved, MayNote}
+use Rattle.never_cut.proofs.Common.{◌≡◌, List, [], ◌∷◌, ◌++◌, Option, Some, None, refl, Entry, Program, Model, Readings, Legal, effect, after, IsLegal, noted, moved, MayNote}
 
 pub after-append : (program : Program) (readings : Readings) (m : Model) (journal : List Entry) (e : Entry) →
     after program readings m (journal ++ e ∷ []) ≡ effect program readings (after program readings m journal) e

@@ -1,27 +1,6 @@
 -- The counts that commits raise have room for the entries to come.
-use Rattle.std.proofs.Common.{◌≡◌, ℕ, ◌+◌, ◌-◌, ◌^◌, ◌<◌, ◌≤◌, Bool, true, false, length, List, drop, get_or, set, Option, Some, None, refl, sym, ap, subst, arith, inl, inr, ◌||◌, if◌then◌else◌, get_or-set_other}
-use Rattle.std.proofs.lemmas.Bool.{cases_eq, cases_lt}
-use Rattle.std.proofs.lemmas.Grind.{get_or-set_at}
-use Rattle.std.proofs.lemmas.List.{set_past}
-use Rattle.ink_base.specs.declared.event.Event.{Event}
-use Rattle.ink_base.specs.declared.event.Origin.{Origin}
-use Rattle.ink_base.specs.declared.entry.Entry.{Entry}
-use Rattle.ink_base.specs.declared.entry.Entry.TheVariants.{Push, Refuse, Skip, Tick, Scan, Look, Commit, Release}
-use Rattle.task_isa.specs.declared.outcome.Outcome.{Outcome}
-use Rattle.task_isa.specs.declared.program.Program.{Program}
-use Rattle.task_isa.specs.declared.task_end.TaskEnd.{TaskEnd}
-use Rattle.task_isa.specs.declared.program.ThreadDef.{ThreadDef}
-use Rattle.prog_check.specs.Lookup.{source_thread, no_thread_def, no_pipe_def}
-use Rattle.never_cut.specs.declared.model.Model.{Model}
-use Rattle.never_cut.specs.declared.pipe_model.PipeModel.{PipeModel}
-use Rattle.never_cut.specs.declared.scan_model.ScanModel.{ScanModel}
-use Rattle.never_cut.specs.declared.thread_model.ThreadModel.{ThreadModel}
-use Rattle.never_cut.specs.State.{thread_of, no_thread, no_pipe, is_running, open_model, open_thread, open_pipe}
-use Rattle.never_cut.specs.Pending.{pending}
-use Rattle.never_cut.specs.Commit.{consumed, end_at, ended, expired, expired_after, is_expired, is_of_queue, taken_from, thread_after, with_first, committed}
-use Rattle.never_cut.specs.Entries.{Readings, Legal, effect, fed_by, looked, next_event, pushed, released}
-use Rattle.never_cut.specs.Stands.{flag}
-use Rattle.never_cut.specs.Within.{HasRoomFor, Lasts, LastsThread, is_scanning}
+use Rattle.never_cut.proofs.Common.{◌≡◌, ℕ, ◌+◌, ◌-◌, ◌^◌, ◌<◌, ◌≤◌, Bool, true, false, length, List, drop, get_or, set, Option, Some, None, refl, sym, ap, subst, arith, inl, inr, ◌||◌, if◌then◌else◌, get_or-set_other, cases_eq, cases_lt, get_or-set_at, set_past, Event, Origin, Entry, Push, Refuse, Skip, Tick, Scan, Look, Commit, Release, Outcome, Program, TaskEnd, ThreadDef, source_thread, no_thread_def, no_pipe_def, Model, PipeModel, ScanModel, ThreadModel, thread_of, no_thread, no_pipe, is_running, open_model, open_thread, open_pipe, pending, consumed, end_at, ended, expired, expired_after, is_expired, is_of_queue, taken_from, thread_after, with_first, Readings, Legal, effect, fed_by, looked, next_event, pushed, released, flag, HasRoomFor, Lasts, LastsThread, is_scanning}
+use Rattle.never_cut.specs.Commit.{committed}
 use Rattle.std.proofs.Math.ListN.{get_or-map}
 use Rattle.ink_base.specs.declared.event.Origin.TheVariants as origins
 use Rattle.task_isa.specs.declared.outcome.Outcome.TheVariants as outcomes

@@ -1,3 +1,4 @@
+mod Common
 pub mod Threads
 pub mod Privates
 pub mod Blocks

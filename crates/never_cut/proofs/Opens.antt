@@ -1,12 +1,6 @@
 -- The state at the start is within every bound.
-use Rattle.std.proofs.Common.{◌≤◌, sym, subst, arith}
-use Rattle.std.proofs.lemmas.List.{length-map}
-use Rattle.task_isa.specs.declared.program.Program.{Program}
-use Rattle.task_isa.specs.declared.program.ThreadDef.{ThreadDef}
-use Rattle.prog_check.specs.Lookup.{no_thread_def, no_pipe_def, thread_def, no_thread}
-use Rattle.never_cut.specs.declared.pipe_model.PipeModel.{PipeModel}
-use Rattle.never_cut.specs.State.{open_model, open_thread, open_pipe, open_timer, open_source}
-use Rattle.never_cut.specs.Within.{IsWithin, IsWithinSource, IsWithinThread}
+use Rattle.never_cut.proofs.Common.{◌≤◌, sym, subst, arith, length-map, Program, ThreadDef, no_thread_def, no_pipe_def, thread_def, PipeModel, open_model, open_thread, open_pipe, open_timer, open_source, IsWithin, IsWithinSource, IsWithinThread}
+use Rattle.prog_check.specs.Lookup.{no_thread}
 use Rattle.std.proofs.Math.ListN.{get_or-map}
 
 open_thread_within : (program : Program) (d : ThreadDef) → IsWithinThread program 0 (open_thread d)

@@ -1,12 +1,5 @@
 -- The outputs, and those of each thread, after some of one thread were appended.
-use Rattle.std.proofs.Common.{◌≡◌, ◌≢◌, inl, inr, ℕ, suc, ◌+◌, ◌-◌, ◌^◌, ◌<◌, ◌≤◌, ◌==◌, true, false, List, [], ◌∷◌, ◌++◌, length, get_or, refl, sym, ap, ◌∙◌, arith, length-append, All, filter, eq-eqb, ne_eqb, append-nil}
-use Rattle.std.specs.List.Sorted.{IsNonDecreasingBy}
-use Rattle.std.proofs.lemmas.Bool.{cases_lt}
-use Rattle.std.proofs.lemmas.List.Elements.{All-append, All-nil, All-cons, filter-append}
-use Rattle.std.proofs.lemmas.List.{get_or_append_left, get_or-append_right}
-use Rattle.ink_base.specs.declared.output.Output.{Output}
-use Rattle.never_cut.specs.Outputs.{stamped}
-use Rattle.never_cut.specs.Sound.{HasStamps}
+use Rattle.never_cut.proofs.Common.{◌≡◌, ◌≢◌, inl, inr, ℕ, suc, ◌+◌, ◌-◌, ◌^◌, ◌<◌, ◌≤◌, ◌==◌, true, false, List, [], ◌∷◌, ◌++◌, length, get_or, refl, sym, ap, ◌∙◌, arith, length-append, All, filter, eq-eqb, ne_eqb, append-nil, IsNonDecreasingBy, cases_lt, All-append, All-nil, All-cons, filter-append, get_or_append_left, get_or-append_right, Output, stamped, HasStamps}
 use Rattle.never_cut.proofs.Values.{HaveBits}
 
 -- those of thread u among some outputs

@@ -1,15 +1,5 @@
 -- How the task of a pick ends, where its chain isn't expired.
-use Rattle.task_isa.specs.declared.program.Program.{Program}
-use Rattle.task_isa.specs.Meaning.{room_of}
-use Rattle.fram_words.specs.Places.{Memory}
-use Rattle.prog_check.specs.Accepted.{IsAccepted}
-use Rattle.prog_check.specs.Lookup.{thread_def}
-use Rattle.ink_layout.specs.declared.pick.Pick.{Pick}
-use Rattle.never_cut.specs.declared.model.Model.{Model}
-use Rattle.never_cut.specs.Commit.{start_at, end_at}
-use Rattle.never_cut.specs.Entries.{Readings}
-use Rattle.never_cut.specs.Sound.{IsSound}
-use Rattle.never_cut.specs.kept.Picked.{IsPicked}
+use Rattle.never_cut.proofs.Common.{Program, room_of, Memory, IsAccepted, thread_def, Pick, Model, start_at, end_at, Readings, IsSound, IsPicked}
 use Rattle.never_cut.proofs.TaskRuns.{IsFittingEnd}
 use Rattle.never_cut.proofs.SoundParts.{parts_of}
 use Rattle.never_cut.proofs.SoundCommits.{end_fits_at}

@@ -1,18 +1,5 @@
 -- What the event of a pick is.
-use Rattle.std.proofs.Common.{◌≡◌, ℕ, ◌%◌, ◌^◌, ◌<◌, length, Option, Some, None, refl, sym, ap, ◌∙◌, subst, arith}
-use Rattle.ink_base.specs.declared.ids.TaskId.{TaskId}
-use Rattle.ink_base.specs.declared.event.Event.{Event}
-use Rattle.ink_base.specs.declared.event.Origin.{Origin}
-use Rattle.task_isa.specs.declared.program.Program.{Program}
-use Rattle.fram_words.specs.Places.{Memory}
-use Rattle.prog_check.specs.Lookup.{pipe_def, timer_def, source_thread}
-use Rattle.ink_layout.specs.declared.pick.Pick.{Pick}
-use Rattle.never_cut.specs.declared.model.Model.{Model}
-use Rattle.never_cut.specs.State.{thread_of, pipe_of}
-use Rattle.never_cut.specs.Entries.{Readings}
-use Rattle.push_core.specs.Queue.{event_at}
-use Rattle.never_cut.specs.Sound.{IsSound, IsSoundPipe, IsQueued, IsServed, IsChain}
-use Rattle.never_cut.specs.kept.Picked.{IsPicked}
+use Rattle.never_cut.proofs.Common.{◌≡◌, ℕ, ◌%◌, ◌^◌, ◌<◌, length, Option, Some, None, refl, sym, ap, ◌∙◌, subst, arith, TaskId, Event, Origin, Program, Memory, pipe_def, timer_def, source_thread, Pick, Model, thread_of, pipe_of, Readings, event_at, IsSound, IsSoundPipe, IsQueued, IsServed, IsChain, IsPicked}
 use Rattle.ink_base.specs.declared.event.Origin.TheVariants as origins
 use Rattle.never_cut.proofs.Picks.{pending-running}
 use Rattle.never_cut.proofs.Beginnings.{Begins, begins}

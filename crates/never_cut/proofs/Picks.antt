@@ -1,20 +1,6 @@
 -- The pending event of a thread, and what the accesses of the other actors leave of it and of a pick.
-use Rattle.std.proofs.Common.{◌≡◌, ℕ, Bool, true, false, List, [], ◌∷◌, ◌++◌, drop, Option, Some, None, refl, sym, ap, ◌∙◌, if◌then◌else◌}
-use Rattle.ink_base.specs.declared.event.Event.{Event}
-use Rattle.task_isa.specs.declared.program.Program.{Program}
-use Rattle.fram_words.specs.Places.{Memory, Commit}
-use Rattle.ink_layout.specs.declared.pick.Pick.{Pick}
-use Rattle.never_cut.specs.declared.model.Model.{Model}
-use Rattle.never_cut.specs.declared.scan_model.ScanModel.{ScanModel}
-use Rattle.never_cut.specs.declared.thread_model.ThreadModel.{ThreadModel}
-use Rattle.never_cut.specs.declared.pipe_model.PipeModel.{PipeModel}
-use Rattle.never_cut.specs.declared.timer_model.TimerModel.{TimerModel}
-use Rattle.never_cut.specs.State.{thread_of, is_looked, unfinished}
-use Rattle.never_cut.specs.Pending.{pending, pending_in, later_event, first_of}
-use Rattle.ink_base.specs.declared.ids.TaskId.{TaskId}
-use Rattle.never_cut.specs.Entries.{IsPassed}
-use Rattle.never_cut.specs.kept.Actors.{SamePrivate, Follows, IsFirstHeld}
-use Rattle.never_cut.specs.kept.Picked.{IsPicked}
+use Rattle.never_cut.proofs.Common.{◌≡◌, ℕ, Bool, true, false, List, [], ◌∷◌, ◌++◌, drop, Option, Some, None, refl, sym, ap, ◌∙◌, if◌then◌else◌, Event, Program, Memory, Pick, Model, ScanModel, ThreadModel, PipeModel, TimerModel, thread_of, is_looked, unfinished, pending, pending_in, later_event, first_of, TaskId, IsPassed, SamePrivate, Follows, IsFirstHeld, IsPicked}
+use Rattle.fram_words.specs.Places.{Commit}
 use Rattle.never_cut.proofs.Follows.{with_parts, follow_finished, follow_released, follow_running, follow_event, follow_first, follow_first_commit, follow_calm}
 
 -- the pending event is that of the scan

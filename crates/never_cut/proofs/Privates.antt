@@ -1,19 +1,6 @@
 -- What the private words stand for outlasts whatever leaves them and what they tell as they are.
-use Rattle.std.proofs.Common.{◌≡◌, ℕ, ◌+◌, ◌%◌, ◌^◌, ◌<◌, ◌≤◌, List, length, filter, refl, sym, ap, ◌∙◌, subst, arith, inl, inr, ◌==◌, slice_index, All}
-use Rattle.std.specs.Option.{ForSome}
-use Rattle.ink_base.specs.declared.output.Output.{Output}
-use Rattle.task_isa.specs.declared.program.Program.{Program}
-use Rattle.fram_words.specs.Places.{Code, Log, Ring, Ack, Memory, store, Commit}
-use Rattle.fram_words.specs.Held.{origin_word}
-use Rattle.thread_state.specs.Pages.{place_in, committed}
-use Rattle.prog_check.specs.Lookup.{thread_def, pipe_def}
-use Rattle.ink_layout.specs.Shape.{pages_of}
-use Rattle.never_cut.specs.declared.model.Model.{Model}
-use Rattle.never_cut.specs.declared.pipe_model.PipeModel.{PipeModel}
-use Rattle.never_cut.specs.State.{thread_of, no_pipe}
-use Rattle.never_cut.specs.Commit.{outputs_of}
-use Rattle.never_cut.specs.Stands.{saved, thread_words, log_of, AreLogged, StandsThread, StandsPipe, StandsPrivate}
-use Rattle.never_cut.specs.kept.Actors.{SamePrivate}
+use Rattle.never_cut.proofs.Common.{◌≡◌, ℕ, ◌+◌, ◌%◌, ◌^◌, ◌<◌, ◌≤◌, List, length, filter, refl, sym, ap, ◌∙◌, subst, arith, inl, inr, ◌==◌, slice_index, All, ForSome, Output, Program, Code, Log, Ring, Ack, Memory, store, origin_word, place_in, committed, thread_def, pipe_def, pages_of, Model, PipeModel, thread_of, no_pipe, outputs_of, saved, thread_words, log_of, AreLogged, StandsThread, StandsPipe, StandsPrivate, SamePrivate}
+use Rattle.fram_words.specs.Places.{Commit}
 use Rattle.std.proofs.Math.Pow.{pow-lt}
 
 -- a commit word without a bit names pages that are there

@@ -1,29 +1,5 @@
 -- The outputs that are read off an image have stamps of commits, and the counts of an image that isn't worn have room.
-use Rattle.std.proofs.Common.{◌≡◌, inl, inr, ℕ, suc, ◌+◌, ◌-◌, ◌/◌, ◌^◌, ◌<◌, ◌≤◌, ◌==◌, Bool, true, false, cond, List, [], ◌∷◌, length, get_or, Option, Some, None, refl, sym, ap, ◌∙◌, subst, arith, All, eq-eqb, eqb-true}
-use Rattle.std.proofs.lemmas.Bool.{cases_eq, cases_lt}
-use Rattle.std.proofs.lemmas.List.{get_or_past, get_or-map}
-use Rattle.std.proofs.lemmas.List.Elements.{All-nil, All-cons, All-filter, filter_passes}
-use Rattle.ink_base.specs.declared.output.Output.{Output}
-use Rattle.task_isa.specs.declared.program.Program.{Program}
-use Rattle.fram_words.specs.Places.{Memory, Log}
-use Rattle.fram_words.specs.Held.{output_word}
-use Rattle.thread_state.specs.Pages.{committed}
-use Rattle.push_core.specs.Table.{greatest_tail}
-use Rattle.push_core.specs.Queue.{published}
-use Rattle.prog_check.specs.Accepted.{IsAccepted}
-use Rattle.prog_check.specs.Lookup.{pipe_def}
-use Rattle.never_cut.specs.declared.model.Model.{Model}
-use Rattle.never_cut.specs.declared.pipe_model.PipeModel.{PipeModel}
-use Rattle.never_cut.specs.declared.scan_model.ScanModel.{ScanModel}
-use Rattle.never_cut.specs.State.{thread_of, queue_of, pipe_of, no_thread, no_pipe}
-use Rattle.never_cut.specs.Outputs.{outputs_in}
-use Rattle.never_cut.specs.Commit.{outputs_of}
-use Rattle.never_cut.specs.Sound.{HasStamps}
-use Rattle.never_cut.specs.Stands.{flag}
-use Rattle.never_cut.specs.Within.{is_scanning, LastsThread, Lasts}
-use Rattle.never_cut.specs.ReadOff.{IsReadOff}
-use Rattle.never_cut.specs.Image.{stamp_at, IsLogWord, IsImage, taken_of}
-use Rattle.never_cut.specs.Worn.{IsWorn, ManyCommits, ManyServices, ManyTaken}
+use Rattle.never_cut.proofs.Common.{◌≡◌, inl, inr, ℕ, suc, ◌+◌, ◌-◌, ◌/◌, ◌^◌, ◌<◌, ◌≤◌, ◌==◌, Bool, true, false, cond, List, [], ◌∷◌, length, get_or, Option, Some, None, refl, sym, ap, ◌∙◌, subst, arith, All, eq-eqb, eqb-true, cases_eq, cases_lt, get_or_past, get_or-map, All-nil, All-cons, All-filter, filter_passes, Output, Program, Memory, Log, output_word, committed, greatest_tail, published, IsAccepted, pipe_def, Model, PipeModel, ScanModel, thread_of, queue_of, pipe_of, no_thread, no_pipe, outputs_in, outputs_of, HasStamps, flag, is_scanning, LastsThread, Lasts, IsReadOff, stamp_at, IsLogWord, IsImage, taken_of, IsWorn, ManyCommits, ManyServices, ManyTaken}
 use Rattle.fram_words.specs.Header as header
 use Rattle.never_cut.proofs.Blocks.{served_word, trapped_word, expired_word, outputs_word, taken_count}
 

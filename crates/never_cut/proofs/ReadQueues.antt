@@ -1,20 +1,5 @@
 -- The events that the words tell of a queue stand in its slots.
-use Rattle.std.proofs.Common.{◌≡◌, inl, inr, ℕ, zero, suc, ◌+◌, ◌-◌, ◌/◌, ◌%◌, ◌^◌, ◌<◌, ◌≤◌, ◌==◌, ◌&&◌, cond, Bool, true, false, List, [], ◌∷◌, length, Option, Some, None, refl, sym, ap, ◌∙◌, subst, arith, nat_lt, if◌then◌else◌, eqb-true, ltb-true}
-use Rattle.std.proofs.lemmas.Bool.{cases_lt, and_parts}
-use Rattle.ink_base.specs.declared.ids.SourceId.{SourceId}
-use Rattle.ink_base.specs.declared.event.Event.{Event}
-use Rattle.task_isa.specs.declared.program.Program.{Program}
-use Rattle.fram_words.specs.Places.{Memory, Tail, Slot}
-use Rattle.thread_state.specs.Pages.{committed}
-use Rattle.push_core.specs.declared.slot.Slot.TheVariants.{Empty, Full}
-use Rattle.push_core.specs.Slots.{full_word, empty_word, full_in, slot_in, word_of}
-use Rattle.push_core.specs.Queue.{StandsQueue, event_at, event_word}
-use Rattle.push_core.proofs.Slots.{slot_in-empty}
-use Rattle.prog_check.specs.Lookup.{thread_def, source_thread}
-use Rattle.never_cut.specs.Stands.{flag, slots_of}
-use Rattle.never_cut.specs.Sound.{IsQueued}
-use Rattle.never_cut.specs.ReadOff.{slot_of, is_full_of, event_in, events_from, told_finished, told_released, told_held, told_queue}
-use Rattle.never_cut.specs.Image.{IsQueueRight}
+use Rattle.never_cut.proofs.Common.{◌≡◌, inl, inr, ℕ, zero, suc, ◌+◌, ◌-◌, ◌/◌, ◌%◌, ◌^◌, ◌<◌, ◌≤◌, ◌==◌, ◌&&◌, cond, Bool, true, false, List, [], ◌∷◌, length, Option, Some, None, refl, sym, ap, ◌∙◌, subst, arith, nat_lt, if◌then◌else◌, eqb-true, ltb-true, cases_lt, and_parts, SourceId, Event, Program, Memory, Tail, Slot, committed, Empty, Full, full_word, empty_word, full_in, slot_in, word_of, StandsQueue, event_at, event_word, slot_in-empty, thread_def, source_thread, flag, slots_of, IsQueued, slot_of, is_full_of, event_in, events_from, told_finished, told_released, told_held, told_queue, IsQueueRight}
 use Rattle.std.proofs.lemmas.Option.{same_Some}
 use Rattle.ink_base.specs.declared.event.Origin.TheVariants as origins
 use Rattle.fram_words.specs.Header as header

@@ -1,17 +1,5 @@
 -- What SRC, ACK and the held events tell of a source is what the words stand for.
-use Rattle.std.proofs.Common.{◌≡◌, inl, inr, ◌⊎◌, ℕ, zero, suc, ◌+◌, ◌-◌, ◌/◌, ◌%◌, ◌^◌, ◌<◌, ◌≤◌, ◌==◌, ◌||◌, Bool, true, false, List, [], ◌∷◌, length, take, refl, sym, ap, ◌∙◌, subst, arith, eq-eqb, eqb-true}
-use Rattle.std.specs.List.{list_any}
-use Rattle.std.proofs.lemmas.Bool.{cases_Bool, cases_lt, and_parts, and_from}
-use Rattle.ink_base.specs.declared.event.Event.{Event}
-use Rattle.task_isa.specs.declared.program.Program.{Program}
-use Rattle.fram_words.specs.Places.{Memory, Ack, Src}
-use Rattle.fram_words.specs.Held.{src_of}
-use Rattle.push_core.specs.Queue.{event_at, event_source, event_count, IsNumber, IsOneMore, StandsSource, Numbered, Stored, KeepsNumbers}
-use Rattle.push_core.proofs.Events.{is_number, number_source, number_count}
-use Rattle.prog_check.specs.Lookup.{source_thread}
-use Rattle.never_cut.specs.Stands.{flag}
-use Rattle.never_cut.specs.ReadOff.{told_queue, has_number, is_one_more, told_source}
-use Rattle.never_cut.specs.Image.{own_events, held_for, IsSourceRight}
+use Rattle.never_cut.proofs.Common.{◌≡◌, inl, inr, ◌⊎◌, ℕ, zero, suc, ◌+◌, ◌-◌, ◌/◌, ◌%◌, ◌^◌, ◌<◌, ◌≤◌, ◌==◌, ◌||◌, Bool, true, false, List, [], ◌∷◌, length, take, refl, sym, ap, ◌∙◌, subst, arith, eq-eqb, eqb-true, list_any, cases_Bool, cases_lt, and_parts, and_from, Event, Program, Memory, Ack, Src, src_of, event_at, event_source, event_count, IsNumber, IsOneMore, StandsSource, Numbered, Stored, KeepsNumbers, is_number, number_source, number_count, source_thread, flag, told_queue, has_number, is_one_more, told_source, own_events, held_for, IsSourceRight}
 use Rattle.std.specs.Bool.{MatchBool}
 
 -- the test of a number finds the events that have it, and no other

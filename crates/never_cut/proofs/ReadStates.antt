@@ -1,32 +1,5 @@
 -- The state that is read off an image is sound.
-use Rattle.std.proofs.Common.{◌≡◌, ◌≢◌, inl, inr, ℕ, zero, suc, ◌+◌, ◌-◌, ◌^◌, ◌<◌, ◌≤◌, ◌==◌, true, false, List, length, Option, Some, None, refl, sym, ap, ◌∙◌, subst, arith, if◌then◌else◌, slice_index}
-use Rattle.std.specs.Option.{ForSome}
-use Rattle.std.proofs.lemmas.Bool.{cases_lt, cases_Bool}
-use Rattle.std.proofs.lemmas.List.{get_or_past}
-use Rattle.ink_base.specs.declared.ids.TaskId.{TaskId}
-use Rattle.ink_base.specs.declared.event.Event.{Event}
-use Rattle.ink_base.specs.declared.event.Origin.{Origin}
-use Rattle.task_isa.specs.declared.program.Program.{Program}
-use Rattle.fram_words.specs.Places.{Memory, Clock}
-use Rattle.fram_words.specs.Held.{next_word, origin_of, HasOriginBits, due_word}
-use Rattle.fram_words.proofs.ReadBack.{origin_of-origin_word}
-use Rattle.thread_state.specs.Pages.{committed}
-use Rattle.push_core.specs.Table.{greatest_tail}
-use Rattle.push_core.specs.Queue.{Queue, Source, published, event_at}
-use Rattle.prog_check.specs.Accepted.{IsAccepted}
-use Rattle.prog_check.specs.Lookup.{thread_def, pipe_def, timer_def, source_thread}
-use Rattle.never_cut.specs.declared.model.Model.{Model}
-use Rattle.never_cut.specs.declared.scan_model.ScanModel.{ScanModel}
-use Rattle.never_cut.specs.State.{thread_of, pipe_of, timer_of, source_of, queue_of}
-use Rattle.never_cut.specs.Entries.{Readings, readings_of}
-use Rattle.never_cut.specs.Ranges.{IsOwnOrigin, IsTaskOf}
-use Rattle.never_cut.specs.Finished.{AtMostOneFinished}
-use Rattle.never_cut.specs.Stands.{saved}
-use Rattle.never_cut.specs.Sound.{unsettled_into, IsQueued, IsServed, IsChain, IsSoundThread, IsSoundPipe, IsSoundTimer, IsSoundSource, IsSound}
-use Rattle.never_cut.specs.ReadOff.{told_finished, told_released, told_held, told_queue, told_source, IsReadOff}
-use Rattle.never_cut.specs.Image.{HasChain, IsChainValue, IsTakenLast, IsServedFirst, IsBlockWord, IsImage, taken_of, written_of}
-use Rattle.never_cut.specs.Worn.{IsWorn, LateClock, ManyPositions, listed_into}
-use Rattle.never_cut.specs.Images.{AreListed}
+use Rattle.never_cut.proofs.Common.{◌≡◌, ◌≢◌, inl, inr, ℕ, zero, suc, ◌+◌, ◌-◌, ◌^◌, ◌<◌, ◌≤◌, ◌==◌, true, false, List, length, Option, Some, None, refl, sym, ap, ◌∙◌, subst, arith, if◌then◌else◌, slice_index, ForSome, cases_lt, cases_Bool, get_or_past, TaskId, Event, Origin, Program, Memory, Clock, next_word, origin_of, HasOriginBits, due_word, origin_of-origin_word, committed, greatest_tail, Queue, Source, published, event_at, IsAccepted, thread_def, pipe_def, timer_def, source_thread, Model, ScanModel, thread_of, pipe_of, timer_of, source_of, queue_of, Readings, readings_of, IsOwnOrigin, IsTaskOf, AtMostOneFinished, saved, unsettled_into, IsQueued, IsServed, IsChain, IsSoundThread, IsSoundPipe, IsSoundTimer, IsSoundSource, IsSound, told_finished, told_released, told_held, told_queue, told_source, IsReadOff, HasChain, IsChainValue, IsTakenLast, IsServedFirst, IsBlockWord, IsImage, taken_of, written_of, IsWorn, LateClock, ManyPositions, listed_into, AreListed}
 use Rattle.ink_base.specs.declared.event.Origin.TheVariants as origins
 use Rattle.fram_words.specs.Header as header
 use Rattle.never_cut.proofs.ReadCounts.{read_stamps}

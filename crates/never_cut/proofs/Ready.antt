@@ -1,21 +1,5 @@
 -- What a commit's task begins with: the pipes and timers, where its event is consumed, and the event that it serves.
-use Rattle.std.proofs.Common.{◌≡◌, ◌≢◌, ℕ, ◌+◌, ◌^◌, ◌<◌, ◌≤◌, Bool, true, false, List, length, drop, get_or, Option, Some, None, refl, sym, ap, ◌∙◌, arith, subst, inl, inr, get_or-set_other, get_or-set_same}
-use Rattle.std.proofs.lemmas.Bool.{cases_eq}
-use Rattle.ink_base.specs.declared.event.Event.{Event}
-use Rattle.ink_base.specs.declared.event.Origin.{Origin}
-use Rattle.ink_base.specs.declared.ids.TaskId.{TaskId}
-use Rattle.task_isa.specs.declared.program.Program.{Program}
-use Rattle.prog_check.specs.Lookup.{pipe_def}
-use Rattle.never_cut.specs.declared.model.Model.{Model}
-use Rattle.never_cut.specs.declared.thread_model.ThreadModel.{ThreadModel}
-use Rattle.never_cut.specs.declared.pipe_model.PipeModel.{PipeModel}
-use Rattle.never_cut.specs.declared.timer_model.TimerModel.{TimerModel}
-use Rattle.never_cut.specs.declared.scan_model.ScanModel.{ScanModel}
-use Rattle.never_cut.specs.State.{thread_of, pipe_of, is_running, no_pipe}
-use Rattle.never_cut.specs.Pending.{pending}
-use Rattle.never_cut.specs.Commit.{taken_from, moved_on}
-use Rattle.never_cut.specs.Entries.{Readings}
-use Rattle.push_core.specs.Queue.{event_at}
+use Rattle.never_cut.proofs.Common.{◌≡◌, ◌≢◌, ℕ, ◌+◌, ◌^◌, ◌<◌, ◌≤◌, Bool, true, false, List, length, drop, get_or, Option, Some, None, refl, sym, ap, ◌∙◌, arith, subst, inl, inr, get_or-set_other, get_or-set_same, cases_eq, Event, Origin, TaskId, Program, pipe_def, Model, ThreadModel, PipeModel, TimerModel, ScanModel, thread_of, pipe_of, is_running, no_pipe, pending, taken_from, moved_on, Readings, event_at}
 use Rattle.ink_base.specs.declared.event.Origin.TheVariants as origins
 use Rattle.never_cut.proofs.Picks.{pending-running}
 use Rattle.never_cut.proofs.Beginnings.{Begins, begins}

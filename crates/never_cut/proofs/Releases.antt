@@ -1,18 +1,5 @@
 -- The release of a finished event keeps what the words stand for.
-use Rattle.std.proofs.Common.{◌≡◌, ◌≢◌, ℕ, ◌+◌, ◌-◌, ◌%◌, ◌^◌, ◌<◌, true, false, length, arith, refl, ap, ◌∙◌, sym, inl, inr, subst, drop, length-drop}
-use Rattle.std.proofs.lemmas.Bool.{cases_eq}
-use Rattle.task_isa.specs.declared.program.Program.{Program}
-use Rattle.fram_words.specs.Places.{Slot, Tail, Memory, store}
-use Rattle.push_core.specs.Slots.{empty_word}
-use Rattle.prog_check.specs.Lookup.{thread_def}
-use Rattle.never_cut.specs.declared.model.Model.{Model}
-use Rattle.never_cut.specs.declared.thread_model.ThreadModel.{ThreadModel}
-use Rattle.never_cut.specs.State.{thread_of, queue_of, with_thread}
-use Rattle.never_cut.specs.Commit.{outputs_of}
-use Rattle.never_cut.specs.Entries.{released}
-use Rattle.never_cut.specs.Stands.{Saved, saved, flag, written_word, taken_word, timer_word, period_word, slots_of, StandsPrivate}
-use Rattle.push_core.specs.Queue.{published, StandsQueue}
-use Rattle.never_cut.specs.kept.Actors.{StandsForKernel}
+use Rattle.never_cut.proofs.Common.{◌≡◌, ◌≢◌, ℕ, ◌+◌, ◌-◌, ◌%◌, ◌^◌, ◌<◌, true, false, length, arith, refl, ap, ◌∙◌, sym, inl, inr, subst, drop, length-drop, cases_eq, Program, Slot, Tail, Memory, store, empty_word, thread_def, Model, ThreadModel, thread_of, queue_of, with_thread, outputs_of, released, Saved, saved, flag, written_word, taken_word, timer_word, period_word, slots_of, StandsPrivate, published, StandsQueue, StandsForKernel}
 use Rattle.fram_words.specs.Changes.{Becomes}
 use Rattle.fram_words.proofs.Frames.{store-same, store-other}
 use Rattle.push_core.proofs.Queues.{queue_same, queue_release}

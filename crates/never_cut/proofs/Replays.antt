@@ -1,13 +1,5 @@
 -- What a replay keeps from entry to entry.
-use Rattle.std.proofs.Common.{◌≡◌, ℕ, ◌+◌, ◌-◌, ◌^◌, ◌<◌, ◌≤◌, List, [], ◌∷◌, ◌++◌, length, take, get_or, sym, ◌∙◌, ap, subst, arith, take_all}
-use Rattle.std.proofs.lemmas.List.{take_more}
-use Rattle.ink_base.specs.declared.entry.Entry.{Entry}
-use Rattle.task_isa.specs.declared.program.Program.{Program}
-use Rattle.prog_check.specs.Accepted.{IsAccepted}
-use Rattle.never_cut.specs.declared.model.Model.{Model}
-use Rattle.never_cut.specs.Entries.{Readings, readings_of, Legal, effect}
-use Rattle.never_cut.specs.Journal.{IsLegal, after}
-use Rattle.never_cut.specs.Start.{CanStart}
+use Rattle.never_cut.proofs.Common.{◌≡◌, ℕ, ◌+◌, ◌-◌, ◌^◌, ◌<◌, ◌≤◌, List, [], ◌∷◌, ◌++◌, length, take, get_or, sym, ◌∙◌, ap, subst, arith, take_all, take_more, Entry, Program, IsAccepted, Model, Readings, readings_of, Legal, effect, IsLegal, after, CanStart}
 use Rattle.never_cut.proofs.Journals.{after-append, IsLegal-append}
 use Rattle.never_cut.proofs.Starts.{GoesOn, goes_on_step, starts}
 

@@ -1,12 +1,5 @@
 -- The code of an accepted program can be run.
-use Rattle.std.proofs.Common.{ℕ, ◌<◌, length, arith}
-use Rattle.std.proofs.lemmas.List.Sums.{get_or-le-sum_by}
-use Rattle.task_isa.specs.declared.instr.Instr.{Instr}
-use Rattle.task_isa.specs.declared.instr.Instr.TheVariants.{Send, Arm, Stop, Next}
-use Rattle.task_isa.specs.declared.program.Program.{Program}
-use Rattle.task_isa.specs.declared.program.Task.{Task}
-use Rattle.prog_check.specs.Lookup.{task_def, instr_at, no_task_def}
-use Rattle.prog_check.specs.Accepted.{HasCounts, IsAccepted, IsRightInstr}
+use Rattle.never_cut.proofs.Common.{ℕ, ◌<◌, length, arith, get_or-le-sum_by, Instr, Send, Arm, Stop, Next, Program, Task, task_def, instr_at, no_task_def, HasCounts, IsAccepted, IsRightInstr}
 use Rattle.task_isa.specs.Runnable.{HasFittingId, IsRunnable}
 
 fits : (program : Program) (task : Task) (instr : Instr) → HasCounts program → IsRightInstr program task instr → HasFittingId instr

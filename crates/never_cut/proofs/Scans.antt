@@ -1,11 +1,5 @@
 -- An entry that touches the scan alone keeps what the words stand for.
-use Rattle.std.proofs.Common.{refl, Option}
-use Rattle.task_isa.specs.declared.program.Program.{Program}
-use Rattle.fram_words.specs.Places.{Memory}
-use Rattle.never_cut.specs.declared.model.Model.{Model}
-use Rattle.never_cut.specs.declared.scan_model.ScanModel.{ScanModel}
-use Rattle.never_cut.specs.Stands.{StandsPrivate}
-use Rattle.never_cut.specs.kept.Actors.{StandsForKernel}
+use Rattle.never_cut.proofs.Common.{refl, Option, Program, Memory, Model, ScanModel, StandsPrivate, StandsForKernel}
 use Rattle.never_cut.proofs.Privates.{SamePrivately, private_stays, same_blocks}
 
 abbrev pub with_scan : Model → Option ScanModel → Model

@@ -1,27 +1,5 @@
 -- A thread's commits finish the events that were put into its queue, each once and in order.
-use Rattle.std.proofs.Common.{◌≡◌, ◌≢◌, inl, inr, ℕ, ◌<◌, Bool, true, false, List, [], ◌∷◌, ◌++◌, length, get_or, Option, Some, None, refl, sym, ap, ◌∙◌, subst, append_assoc, arith, eq-eqb, ne_eqb, append-nil, get_or-set_other}
-use Rattle.std.specs.Option.{ForSome}
-use Rattle.std.proofs.lemmas.Bool.{cases_eq}
-use Rattle.std.proofs.lemmas.Grind.{get_or-set_at}
-use Rattle.ink_base.specs.declared.ids.ThreadId.{ThreadId}
-use Rattle.ink_base.specs.declared.event.Event.{Event}
-use Rattle.ink_base.specs.declared.event.Origin.{Origin}
-use Rattle.ink_base.specs.declared.ids.TaskId.{TaskId}
-use Rattle.ink_base.specs.declared.entry.Entry.{Entry}
-use Rattle.ink_base.specs.declared.entry.Entry.TheVariants.{Push, Refuse, Skip, Tick, Scan, Look, Commit, Release}
-use Rattle.task_isa.specs.declared.program.Program.{Program}
-use Rattle.prog_check.specs.Lookup.{source_thread}
-use Rattle.never_cut.specs.declared.model.Model.{Model}
-use Rattle.never_cut.specs.declared.scan_model.ScanModel.{ScanModel}
-use Rattle.never_cut.specs.declared.thread_model.ThreadModel.{ThreadModel}
-use Rattle.never_cut.specs.State.{thread_of, unfinished, no_thread}
-use Rattle.never_cut.specs.Commit.{commit}
-use Rattle.never_cut.specs.Entries.{Readings, Legal, IsCalm, effect, looked, next_event, fed_by, pushed, released}
-use Rattle.never_cut.specs.Journal.{after, IsLegal}
-use Rattle.never_cut.specs.Pending.{first_of}
-use Rattle.never_cut.specs.Sound.{IsSound, IsServed}
-use Rattle.push_core.specs.Queue.{event_at}
-use Rattle.never_cut.specs.Laws.{gathered, queued_by, finished_by, EachEventOnce}
+use Rattle.never_cut.proofs.Common.{◌≡◌, ◌≢◌, inl, inr, ℕ, ◌<◌, Bool, true, false, List, [], ◌∷◌, ◌++◌, length, get_or, Option, Some, None, refl, sym, ap, ◌∙◌, subst, append_assoc, arith, eq-eqb, ne_eqb, append-nil, get_or-set_other, ForSome, cases_eq, get_or-set_at, ThreadId, Event, Origin, TaskId, Entry, Push, Refuse, Skip, Tick, Scan, Look, Commit, Release, Program, source_thread, Model, ScanModel, ThreadModel, thread_of, unfinished, no_thread, commit, Readings, Legal, IsCalm, effect, looked, next_event, fed_by, pushed, released, after, IsLegal, first_of, IsSound, IsServed, event_at, gathered, queued_by, finished_by, EachEventOnce}
 use Rattle.ink_base.specs.declared.event.Origin.TheVariants as origins
 use Rattle.never_cut.proofs.Threads.{kept-set}
 use Rattle.never_cut.proofs.Commits.{Serves, serves, thread_committed, committed-own, commit-other, commit-count}

@@ -1,16 +1,5 @@
 -- Every legal journal settles the readings of each source in order.
-use Rattle.std.proofs.Common.{◌≡◌, ◌⊎◌, inl, inr, ℕ, suc, ◌+◌, ◌-◌, ◌<◌, ◌==◌, cond, Bool, List, [], ◌∷◌, ◌++◌, length, get_or, set, refl, sym, ap, ◌∙◌, subst, arith, length-set, eq-eqb, ne_eqb, get_or-set_same, get_or-set_other}
-use Rattle.std.specs.List.{range_with_len}
-use Rattle.std.proofs.lemmas.Bool.{cases_eq}
-use Rattle.ink_base.specs.declared.entry.Entry.{Entry}
-use Rattle.ink_base.specs.declared.entry.Entry.TheVariants.{Push, Refuse, Skip, Tick, Scan, Look, Commit, Release}
-use Rattle.task_isa.specs.declared.program.Program.{Program}
-use Rattle.never_cut.specs.declared.model.Model.{Model}
-use Rattle.never_cut.specs.declared.source_model.SourceModel.{SourceModel}
-use Rattle.never_cut.specs.State.{source_of, no_source}
-use Rattle.never_cut.specs.Entries.{Readings, Legal, effect, with_accepted, with_refused, with_skipped}
-use Rattle.never_cut.specs.Journal.{after, IsLegal}
-use Rattle.never_cut.specs.Laws.{settled_by, gathered, ReadingsInOrder}
+use Rattle.never_cut.proofs.Common.{◌≡◌, ◌⊎◌, inl, inr, ℕ, suc, ◌+◌, ◌-◌, ◌<◌, ◌==◌, cond, Bool, List, [], ◌∷◌, ◌++◌, length, get_or, set, refl, sym, ap, ◌∙◌, subst, arith, length-set, eq-eqb, ne_eqb, get_or-set_same, get_or-set_other, range_with_len, cases_eq, Entry, Push, Refuse, Skip, Tick, Scan, Look, Commit, Release, Program, Model, SourceModel, source_of, no_source, Readings, Legal, effect, with_accepted, with_refused, with_skipped, after, IsLegal, settled_by, gathered, ReadingsInOrder}
 use Rattle.never_cut.proofs.Commits.{commit-sources}
 
 -- an entry settles the next reading of source i, or none of it

@@ -1,22 +1,5 @@
 -- What the kernel finds in the slots of a queue.
-use Rattle.std.proofs.Common.{◌≡◌, ◌≢◌, ℕ, ◌+◌, ◌-◌, ◌%◌, ◌^◌, ◌<◌, ◌≤◌, List, [], ◌∷◌, length, Option, Some, None, arith, ap, ◌∙◌, sym, inl, inr, subst}
-use Rattle.std.proofs.lemmas.Bool.{cases_lt}
-use Rattle.std.proofs.Math.Nat.{add-mod_right}
-use Rattle.ink_base.specs.declared.event.Event.{Event}
-use Rattle.task_isa.specs.declared.program.Program.{Program}
-use Rattle.fram_words.specs.Places.{Memory, Tail}
-use Rattle.push_core.specs.Slots.{slot_in}
-use Rattle.push_core.specs.declared.slot.Slot.TheVariants.{Empty, Full}
-use Rattle.push_core.proofs.Slots.{slot_in-empty}
-use Rattle.push_core.proofs.Events.{queued_fits, slot_in-event_word}
-use Rattle.prog_check.specs.Lookup.{thread_def, source_thread}
-use Rattle.never_cut.specs.declared.model.Model.{Model}
-use Rattle.never_cut.specs.declared.thread_model.ThreadModel.{ThreadModel}
-use Rattle.never_cut.specs.State.{thread_of, queue_of}
-use Rattle.never_cut.specs.Entries.{Readings}
-use Rattle.never_cut.specs.Stands.{slots_of}
-use Rattle.push_core.specs.Queue.{StandsQueue, event_slot, event_at, published}
-use Rattle.never_cut.specs.Sound.{IsQueued}
+use Rattle.never_cut.proofs.Common.{◌≡◌, ◌≢◌, ℕ, ◌+◌, ◌-◌, ◌%◌, ◌^◌, ◌<◌, ◌≤◌, List, [], ◌∷◌, length, Option, Some, None, arith, ap, ◌∙◌, sym, inl, inr, subst, cases_lt, add-mod_right, Event, Program, Memory, Tail, slot_in, Empty, Full, slot_in-empty, queued_fits, slot_in-event_word, thread_def, source_thread, Model, ThreadModel, thread_of, queue_of, Readings, slots_of, StandsQueue, event_slot, event_at, published, IsQueued}
 use Rattle.push_core.specs.declared.slot.Slot as slot
 use Rattle.never_cut.specs.kept.Steps.{Background}
 

@@ -1,33 +1,6 @@
 -- A legal commit keeps a state sound.
-use Rattle.std.proofs.Common.{◌≡◌, ◌≢◌, ℕ, ◌+◌, ◌-◌, ◌^◌, ◌<◌, ◌≤◌, Bool, true, false, List, ◌++◌, length, set, Option, Some, None, refl, sym, ap, ◌∙◌, arith, subst, inl, inr, length-append, length-set, if◌then◌else◌, ◌&&◌, ◌==◌, All, eqb-true}
-use Rattle.std.proofs.lemmas.Bool.{cases_eq}
-use Rattle.std.proofs.lemmas.List.Sums.{passes_at_first}
-use Rattle.std.proofs.lemmas.List.Elements.{All-append}
-use Rattle.ink_base.specs.declared.event.Event.{Event}
-use Rattle.ink_base.specs.declared.event.Origin.{Origin}
-use Rattle.ink_base.specs.declared.output.Output.{Output}
-use Rattle.ink_base.specs.declared.ids.TaskId.{TaskId}
-use Rattle.ink_base.specs.declared.ids.ThreadId.{ThreadId}
-use Rattle.ink_base.specs.declared.entry.Entry.TheVariants.{Commit}
-use Rattle.task_isa.specs.declared.program.Program.{Program}
-use Rattle.task_isa.specs.declared.program.Task.{Task}
-use Rattle.task_isa.specs.declared.task_end.TaskEnd.{TaskEnd}
-use Rattle.task_isa.specs.Meaning.{Room, room_of}
-use Rattle.prog_check.specs.Accepted.{IsAccepted}
-use Rattle.prog_check.specs.Lookup.{thread_def, task_def, no_task_def, first_task, source_thread}
-use Rattle.never_cut.specs.declared.model.Model.{Model}
-use Rattle.never_cut.specs.declared.thread_model.ThreadModel.{ThreadModel}
-use Rattle.never_cut.specs.declared.pipe_model.PipeModel.{PipeModel}
-use Rattle.never_cut.specs.declared.timer_model.TimerModel.{TimerModel}
-use Rattle.never_cut.specs.declared.scan_model.ScanModel.{ScanModel}
-use Rattle.never_cut.specs.State.{thread_of, is_running}
-use Rattle.never_cut.specs.Pending.{pending}
-use Rattle.never_cut.specs.Commit.{outputs_of, ended, consumed, taken_from, moved_on, with_sends, with_timers, with_first, thread_after, end_at, start_at, task_at, is_overdue, expired, expired_after, committed}
-use Rattle.never_cut.specs.Outputs.{stamped}
-use Rattle.never_cut.specs.Entries.{Readings, Legal, effect, readings_of}
-use Rattle.push_core.specs.Queue.{event_at}
-use Rattle.never_cut.specs.Sound.{IsQueued, HasStamps, unsettled_into, sources_in}
-use Rattle.push_core.proofs.Unsettled.{unsettled_least}
+use Rattle.never_cut.proofs.Common.{◌≡◌, ◌≢◌, ℕ, ◌+◌, ◌-◌, ◌^◌, ◌<◌, ◌≤◌, Bool, true, false, List, ◌++◌, length, set, Option, Some, None, refl, sym, ap, ◌∙◌, arith, subst, inl, inr, length-append, length-set, if◌then◌else◌, ◌&&◌, ◌==◌, All, eqb-true, cases_eq, passes_at_first, All-append, Event, Origin, Output, TaskId, ThreadId, Commit, Program, Task, TaskEnd, Room, room_of, IsAccepted, thread_def, task_def, no_task_def, first_task, source_thread, Model, ThreadModel, PipeModel, TimerModel, ScanModel, thread_of, is_running, pending, outputs_of, ended, consumed, taken_from, moved_on, with_sends, with_timers, with_first, thread_after, end_at, start_at, task_at, is_overdue, expired, expired_after, stamped, Readings, Legal, effect, readings_of, event_at, IsQueued, HasStamps, unsettled_into, sources_in, unsettled_least}
+use Rattle.never_cut.specs.Commit.{committed}
 use Rattle.ink_base.specs.declared.event.Origin.TheVariants as origins
 use Rattle.never_cut.proofs.Outputs.{of_thread, outputs-own, outputs-other, length-stamped, stamped_values, later_stamps, more_stamps}
 use Rattle.never_cut.proofs.TaskRuns.{HasEventBits, IsFittingEnd, task_fits}

@@ -1,21 +1,5 @@
 -- A sound state, by the parts that its entries change.
-use Rattle.std.proofs.Common.{◌≡◌, ℕ, ◌+◌, ◌%◌, ◌^◌, ◌<◌, ◌≤◌, true, false, List, length, get_or, Some, None, slice_index, All}
-use Rattle.std.specs.Option.{ForSome}
-use Rattle.ink_base.specs.declared.event.Event.{Event}
-use Rattle.ink_base.specs.declared.output.Output.{Output}
-use Rattle.task_isa.specs.declared.program.Program.{Program}
-use Rattle.prog_check.specs.Lookup.{thread_def, pipe_def, timer_def, task_def}
-use Rattle.push_core.specs.Table.{greatest_tail}
-use Rattle.never_cut.specs.declared.model.Model.{Model}
-use Rattle.never_cut.specs.declared.thread_model.ThreadModel.{ThreadModel}
-use Rattle.never_cut.specs.declared.pipe_model.PipeModel.{PipeModel}
-use Rattle.never_cut.specs.declared.timer_model.TimerModel.{TimerModel}
-use Rattle.never_cut.specs.State.{thread_of, queue_of, no_pipe, no_timer}
-use Rattle.never_cut.specs.Commit.{outputs_of}
-use Rattle.never_cut.specs.Entries.{Readings, IsCalm}
-use Rattle.push_core.specs.Queue.{published, event_at}
-use Rattle.never_cut.specs.Finished.{AtMostOneFinished}
-use Rattle.never_cut.specs.Sound.{IsSound, IsSoundThread, IsSoundSource, IsQueued, HasStamps, unsettled_into}
+use Rattle.never_cut.proofs.Common.{◌≡◌, ℕ, ◌+◌, ◌%◌, ◌^◌, ◌<◌, ◌≤◌, true, false, List, length, get_or, Some, None, slice_index, All, ForSome, Event, Output, Program, thread_def, pipe_def, timer_def, task_def, greatest_tail, Model, ThreadModel, PipeModel, TimerModel, thread_of, queue_of, no_pipe, no_timer, outputs_of, Readings, IsCalm, published, event_at, AtMostOneFinished, IsSound, IsSoundThread, IsSoundSource, IsQueued, HasStamps, unsettled_into}
 use Rattle.ink_base.specs.declared.event.Origin.TheVariants as origins
 use Rattle.never_cut.proofs.Values.{HaveBits}
 

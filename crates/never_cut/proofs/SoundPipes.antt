@@ -1,19 +1,5 @@
 -- The pipes stay sound where a service takes an item and a task sends some.
-use Rattle.std.proofs.Common.{◌≡◌, ℕ, zero, suc, ◌+◌, ◌-◌, ◌^◌, ◌<◌, ◌≤◌, ◌==◌, Bool, cond, List, [], ◌∷◌, ◌++◌, length, drop, get_or, set, refl, sym, ap, ◌∙◌, arith, subst, inl, inr, length-append, length-drop, length-set, get_or-set_other, slice_index, All, eq-eqb}
-use Rattle.std.specs.List.{enumerate_from}
-use Rattle.std.proofs.lemmas.Bool.{cases_eq}
-use Rattle.std.proofs.lemmas.Grind.{get_or-set_at, get_or_after_one}
-use Rattle.std.proofs.lemmas.List.{get_or-map}
-use Rattle.std.proofs.lemmas.List.Sums.{sum_by-cons}
-use Rattle.ink_base.specs.declared.event.Origin.{Origin}
-use Rattle.task_isa.specs.declared.program.Program.{Program}
-use Rattle.task_isa.specs.declared.sent.Sent.{Sent}
-use Rattle.task_isa.specs.Meaning.{sent_to}
-use Rattle.prog_check.specs.Lookup.{pipe_def, no_pipe_def}
-use Rattle.never_cut.specs.declared.model.Model.{Model}
-use Rattle.never_cut.specs.declared.pipe_model.PipeModel.{PipeModel}
-use Rattle.never_cut.specs.State.{pipe_of, no_pipe}
-use Rattle.never_cut.specs.Commit.{room_in, rooms, taken_from, with_item, with_sends}
+use Rattle.never_cut.proofs.Common.{◌≡◌, ℕ, zero, suc, ◌+◌, ◌-◌, ◌^◌, ◌<◌, ◌≤◌, ◌==◌, Bool, cond, List, [], ◌∷◌, ◌++◌, length, drop, get_or, set, refl, sym, ap, ◌∙◌, arith, subst, inl, inr, length-append, length-drop, length-set, get_or-set_other, slice_index, All, eq-eqb, enumerate_from, cases_eq, get_or-set_at, get_or_after_one, get_or-map, sum_by-cons, Origin, Program, Sent, sent_to, pipe_def, no_pipe_def, Model, PipeModel, pipe_of, no_pipe, room_in, rooms, taken_from, with_item, with_sends}
 use Rattle.std.proofs.lemmas.List.FromFn.{get_or-enumerate_from, length-enumerate_from}
 use Rattle.ink_base.specs.declared.event.Origin.TheVariants as origins
 use Rattle.never_cut.proofs.Threads.{kept-at}

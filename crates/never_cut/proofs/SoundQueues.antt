@@ -1,25 +1,5 @@
 -- An event that joins or leaves a queue keeps a state sound.
-use Rattle.std.proofs.Common.{◌≡◌, ◌≢◌, ℕ, suc, ◌+◌, ◌<◌, ◌≤◌, true, false, List, [], ◌∷◌, ◌++◌, length, drop, get_or, Some, None, refl, sym, ap, ◌∙◌, arith, subst, inl, inr, length-append, length-drop, length-set}
-use Rattle.std.specs.Option.{ForSome}
-use Rattle.std.proofs.lemmas.Bool.{cases_eq}
-use Rattle.ink_base.specs.declared.event.Event.{Event}
-use Rattle.ink_base.specs.declared.event.Origin.{Origin}
-use Rattle.ink_base.specs.declared.ids.SourceId.{SourceId}
-use Rattle.ink_base.specs.declared.ids.ThreadId.{ThreadId}
-use Rattle.ink_base.specs.declared.entry.Entry.TheVariants.{Push, Release}
-use Rattle.task_isa.specs.declared.program.Program.{Program}
-use Rattle.prog_check.specs.Accepted.{IsAccepted}
-use Rattle.prog_check.specs.Lookup.{source_thread}
-use Rattle.never_cut.specs.declared.model.Model.{Model}
-use Rattle.never_cut.specs.declared.thread_model.ThreadModel.{ThreadModel}
-use Rattle.never_cut.specs.declared.source_model.SourceModel.{SourceModel}
-use Rattle.never_cut.specs.State.{thread_of, source_of, no_thread, with_thread, with_source}
-use Rattle.never_cut.specs.Commit.{outputs_of}
-use Rattle.never_cut.specs.Entries.{Readings, readings_of, Legal, effect, IsCalm, next_event, pushed, released, with_accepted}
-use Rattle.push_core.specs.Queue.{event_at}
-use Rattle.never_cut.specs.Sound.{IsQueued, unsettled_into, sources_in}
-use Rattle.never_cut.specs.Within.{AreShort}
-use Rattle.push_core.proofs.Unsettled.{unsettled_least, unsettled_one}
+use Rattle.never_cut.proofs.Common.{◌≡◌, ◌≢◌, ℕ, suc, ◌+◌, ◌<◌, ◌≤◌, true, false, List, [], ◌∷◌, ◌++◌, length, drop, get_or, Some, None, refl, sym, ap, ◌∙◌, arith, subst, inl, inr, length-append, length-drop, length-set, ForSome, cases_eq, Event, Origin, SourceId, ThreadId, Push, Release, Program, IsAccepted, source_thread, Model, ThreadModel, SourceModel, thread_of, source_of, no_thread, with_thread, with_source, outputs_of, Readings, readings_of, Legal, effect, IsCalm, next_event, pushed, released, with_accepted, event_at, IsQueued, unsettled_into, sources_in, AreShort, unsettled_least, unsettled_one}
 use Rattle.ink_base.specs.declared.event.Origin.TheVariants as origins
 use Rattle.never_cut.proofs.Threads.{thread_of-with_same, thread_of-with_other}
 use Rattle.never_cut.proofs.SoundThreads.{settled_at}

@@ -1,19 +1,5 @@
 -- A tick of the clock, the begin of a scan and its look at a queue keep a state sound.
-use Rattle.std.proofs.Common.{◌≡◌, ℕ, ◌≤◌, [], length, Option, Some, None, refl, ap, arith, inl, inr}
-use Rattle.std.specs.Option.{ForSome}
-use Rattle.std.proofs.lemmas.Bool.{cases_lt}
-use Rattle.std.proofs.lemmas.List.{get_or_past}
-use Rattle.ink_base.specs.declared.ids.ThreadId.{ThreadId}
-use Rattle.ink_base.specs.declared.entry.Entry.TheVariants.{Tick, Scan, Look}
-use Rattle.task_isa.specs.declared.program.Program.{Program}
-use Rattle.never_cut.specs.declared.model.Model.{Model}
-use Rattle.never_cut.specs.declared.thread_model.ThreadModel.{ThreadModel}
-use Rattle.never_cut.specs.declared.scan_model.ScanModel.{ScanModel}
-use Rattle.never_cut.specs.State.{thread_of, no_thread}
-use Rattle.never_cut.specs.Entries.{Readings, Legal, effect, IsCalm, looked, readings_of}
-use Rattle.push_core.proofs.Unsettled.{unsettled_least}
-use Rattle.prog_check.specs.Lookup.{source_thread}
-use Rattle.never_cut.specs.Sound.{sources_in}
+use Rattle.never_cut.proofs.Common.{◌≡◌, ℕ, ◌≤◌, [], length, Option, Some, None, refl, ap, arith, inl, inr, ForSome, cases_lt, get_or_past, ThreadId, Tick, Scan, Look, Program, Model, ThreadModel, ScanModel, thread_of, no_thread, Readings, Legal, effect, IsCalm, looked, readings_of, unsettled_least, source_thread, sources_in}
 use Rattle.never_cut.proofs.SoundParts.{HasSoundParts, taken_in}
 use Rattle.never_cut.proofs.SoundSources.{sources_same}
 use Rattle.never_cut.proofs.SoundThreads.{settled_at}

@@ -1,16 +1,5 @@
 -- The sources of a sound state; a reading that is refused or passed over keeps a state sound.
-use Rattle.std.proofs.Common.{◌≡◌, ◌≢◌, ℕ, ◌<◌, ◌≤◌, true, false, List, length, get_or, sym, ap, ◌∙◌, arith, subst, inl, inr, length-set, get_or-set_same, get_or-set_other}
-use Rattle.std.proofs.lemmas.Bool.{cases_eq}
-use Rattle.ink_base.specs.declared.ids.SourceId.{SourceId}
-use Rattle.ink_base.specs.declared.entry.Entry.TheVariants.{Refuse, Skip}
-use Rattle.task_isa.specs.declared.program.Program.{Program}
-use Rattle.never_cut.specs.declared.model.Model.{Model}
-use Rattle.never_cut.specs.declared.source_model.SourceModel.{SourceModel}
-use Rattle.never_cut.specs.State.{thread_of, source_of, no_source, with_source}
-use Rattle.never_cut.specs.Entries.{Readings, readings_of, Legal, effect, with_refused, with_skipped}
-use Rattle.never_cut.specs.Sound.{IsSoundSource, sources_in}
-use Rattle.push_core.proofs.Unsettled.{unsettled_least}
-use Rattle.prog_check.specs.Lookup.{source_thread}
+use Rattle.never_cut.proofs.Common.{◌≡◌, ◌≢◌, ℕ, ◌<◌, ◌≤◌, true, false, List, length, get_or, sym, ap, ◌∙◌, arith, subst, inl, inr, length-set, get_or-set_same, get_or-set_other, cases_eq, SourceId, Refuse, Skip, Program, Model, SourceModel, thread_of, source_of, no_source, with_source, Readings, readings_of, Legal, effect, with_refused, with_skipped, IsSoundSource, sources_in, unsettled_least, source_thread}
 use Rattle.never_cut.proofs.SoundThreads.{settled_at}
 use Rattle.never_cut.proofs.SoundParts.{HasSoundParts, taken_in}
 

@@ -1,27 +1,5 @@
 -- Every state that a legal journal of an accepted program reaches from a sound one is sound, and its positions fit their bits.
-use Rattle.std.proofs.Common.{◌≡◌, ℕ, zero, suc, ◌^◌, ◌<◌, ◌≤◌, true, false, List, [], ◌∷◌, length, map, get_or, Some, None, refl, sym, ap, ◌∙◌, arith, subst, All}
-use Rattle.std.proofs.lemmas.List.Elements.{All-nil}
-use Rattle.std.proofs.lemmas.List.{get_or-map, length-map, length-replicate}
-use Rattle.ink_base.specs.declared.ids.ThreadId.{ThreadId}
-use Rattle.ink_base.specs.declared.output.Output.{Output}
-use Rattle.ink_base.specs.declared.entry.Entry.{Entry}
-use Rattle.ink_base.specs.declared.entry.Entry.TheVariants.{Push, Refuse, Skip, Tick, Scan, Look, Commit, Release}
-use Rattle.task_isa.specs.declared.program.Program.{Program}
-use Rattle.task_isa.specs.declared.program.ThreadDef.{ThreadDef}
-use Rattle.push_core.specs.Table.{greatest_tail}
-use Rattle.prog_check.specs.Accepted.{IsAccepted}
-use Rattle.prog_check.specs.Lookup.{thread_def, pipe_def, no_thread_def, no_timer_def, source_thread}
-use Rattle.never_cut.specs.declared.model.Model.{Model}
-use Rattle.never_cut.specs.declared.thread_model.ThreadModel.{ThreadModel}
-use Rattle.never_cut.specs.declared.pipe_model.PipeModel.{PipeModel}
-use Rattle.never_cut.specs.declared.source_model.SourceModel.{SourceModel}
-use Rattle.never_cut.specs.State.{thread_of, queue_of, no_thread, no_pipe, no_timer, no_source, open_model, open_thread, open_pipe, open_timer, open_source}
-use Rattle.never_cut.specs.Entries.{Readings, readings_of, Legal, effect}
-use Rattle.never_cut.specs.Journal.{after, IsLegal}
-use Rattle.push_core.specs.Queue.{published}
-use Rattle.never_cut.specs.Sound.{IsSound, IsSoundSource, unsettled_into, sources_in}
-use Rattle.never_cut.specs.Within.{AreShort}
-use Rattle.push_core.proofs.Unsettled.{unsettled_bound}
+use Rattle.never_cut.proofs.Common.{◌≡◌, ℕ, zero, suc, ◌^◌, ◌<◌, ◌≤◌, true, false, List, [], ◌∷◌, length, map, get_or, Some, None, refl, sym, ap, ◌∙◌, arith, subst, All, All-nil, get_or-map, length-map, length-replicate, ThreadId, Output, Entry, Push, Refuse, Skip, Tick, Scan, Look, Commit, Release, Program, ThreadDef, greatest_tail, IsAccepted, thread_def, pipe_def, no_thread_def, no_timer_def, source_thread, Model, ThreadModel, PipeModel, SourceModel, thread_of, queue_of, no_thread, no_pipe, no_timer, no_source, open_model, open_thread, open_pipe, open_timer, open_source, Readings, readings_of, Legal, effect, after, IsLegal, published, IsSound, IsSoundSource, unsettled_into, sources_in, AreShort, unsettled_bound}
 use Rattle.task_isa.specs.declared.program.PipeDef.{PipeDef}
 use Rattle.never_cut.proofs.SoundParts.{IsSoundAt, ThreadSound, IsSoundPipeAt, IsSoundTimerAt, HasSoundParts, parts_of, sound_of, taken_in}
 use Rattle.never_cut.proofs.SoundSources.{refuse_sound, skip_sound}

@@ -1,13 +1,5 @@
 -- The timers stay sound where a service of one begins and a task sets some.
-use Rattle.std.proofs.Common.{◌≡◌, ℕ, suc, ◌+◌, ◌^◌, ◌<◌, ◌≤◌, ◌==◌, Bool, true, false, List, [], ◌∷◌, length, get_or, set, Option, Some, None, refl, sym, ap, ◌∙◌, arith, subst, inl, inr, length-set, get_or-set_other, All, if◌then◌else◌}
-use Rattle.std.proofs.lemmas.Bool.{cases_eq}
-use Rattle.std.proofs.lemmas.Grind.{get_or-set_at}
-use Rattle.ink_base.specs.declared.event.Origin.{Origin}
-use Rattle.task_isa.specs.declared.program.Program.{Program}
-use Rattle.task_isa.specs.declared.timer_set.TimerSet.{TimerSet}
-use Rattle.never_cut.specs.declared.timer_model.TimerModel.{TimerModel}
-use Rattle.never_cut.specs.State.{no_timer}
-use Rattle.never_cut.specs.Commit.{next_due, moved_on, set_by, with_timers}
+use Rattle.never_cut.proofs.Common.{◌≡◌, ℕ, suc, ◌+◌, ◌^◌, ◌<◌, ◌≤◌, ◌==◌, Bool, true, false, List, [], ◌∷◌, length, get_or, set, Option, Some, None, refl, sym, ap, ◌∙◌, arith, subst, inl, inr, length-set, get_or-set_other, All, if◌then◌else◌, cases_eq, get_or-set_at, Origin, Program, TimerSet, TimerModel, no_timer, next_due, moved_on, set_by, with_timers}
 use Rattle.ink_base.specs.declared.event.Origin.TheVariants as origins
 use Rattle.never_cut.proofs.TaskRuns.{IsRightSetting}
 use Rattle.never_cut.proofs.SoundParts.{IsSoundTimerAt, TimersSound}

@@ -1,20 +1,5 @@
 -- Each output that a journal makes has the number of a commit of its thread.
-use Rattle.std.proofs.Common.{◌≡◌, inl, inr, ℕ, zero, suc, ◌+◌, ◌-◌, ◌≤◌, List, [], ◌∷◌, ◌++◌, length, get_or, Some, None, refl, sym, ap, ◌∙◌, subst, arith, length-append, append_assoc, All, slice_get, append-nil}
-use Rattle.std.specs.List.Sorted.{IsNonDecreasingBy}
-use Rattle.std.proofs.lemmas.Bool.{cases_lt}
-use Rattle.std.proofs.lemmas.List.{get_or_append_left, get_or-append_right}
-use Rattle.std.proofs.lemmas.List.Elements.{All-append, All-nil, All-cons}
-use Rattle.ink_base.specs.declared.ids.ThreadId.{ThreadId}
-use Rattle.ink_base.specs.declared.output.Output.{Output}
-use Rattle.ink_base.specs.declared.entry.Entry.{Entry}
-use Rattle.ink_base.specs.declared.entry.Entry.TheVariants.{Push, Refuse, Skip, Tick, Scan, Look, Commit, Release}
-use Rattle.task_isa.specs.declared.program.Program.{Program}
-use Rattle.never_cut.specs.declared.model.Model.{Model}
-use Rattle.never_cut.specs.Outputs.{stamped}
-use Rattle.never_cut.specs.Entries.{Readings, Legal, effect}
-use Rattle.never_cut.specs.Journal.{after, IsLegal}
-use Rattle.never_cut.specs.Laws.{committing, commits_in, IsStamped, StampsByCommits}
-use Rattle.never_cut.specs.Sound.{HasStamps}
+use Rattle.never_cut.proofs.Common.{◌≡◌, inl, inr, ℕ, zero, suc, ◌+◌, ◌-◌, ◌≤◌, List, [], ◌∷◌, ◌++◌, length, get_or, Some, None, refl, sym, ap, ◌∙◌, subst, arith, length-append, append_assoc, All, slice_get, append-nil, IsNonDecreasingBy, cases_lt, get_or_append_left, get_or-append_right, All-append, All-nil, All-cons, ThreadId, Output, Entry, Push, Refuse, Skip, Tick, Scan, Look, Commit, Release, Program, Model, stamped, Readings, Legal, effect, after, IsLegal, committing, commits_in, IsStamped, StampsByCommits, HasStamps}
 use Rattle.never_cut.proofs.Commits.{committed-outputs, outs_of, serves}
 use Rattle.never_cut.proofs.Outputs.{more_stamps}
 

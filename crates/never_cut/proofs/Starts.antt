@@ -1,27 +1,5 @@
 -- A state at which a run can begin has room for an entry, and keeps it; the state of the first image is one.
-use Rattle.std.proofs.Common.{◌≡◌, ℕ, suc, ◌+◌, ◌-◌, ◌^◌, ◌<◌, ◌≤◌, Bool, true, false, List, [], ◌∷◌, length, Some, None, refl, sym, subst, arith, inl, inr, All}
-use Rattle.std.specs.Option.{ForSome}
-use Rattle.std.proofs.lemmas.Bool.{cases_lt}
-use Rattle.std.proofs.lemmas.List.{get_or_past}
-use Rattle.std.proofs.lemmas.List.Elements.{All-nil, All-cons}
-use Rattle.ink_base.specs.declared.event.Event.{Event}
-use Rattle.ink_base.specs.declared.event.Origin.{Origin}
-use Rattle.ink_base.specs.declared.entry.Entry.{Entry}
-use Rattle.ink_base.specs.declared.entry.Entry.TheVariants.{Push, Refuse, Skip, Tick, Scan, Look, Commit, Release}
-use Rattle.task_isa.specs.declared.program.Program.{Program}
-use Rattle.prog_check.specs.Accepted.{IsAccepted}
-use Rattle.prog_check.specs.Lookup.{source_thread}
-use Rattle.never_cut.specs.declared.model.Model.{Model}
-use Rattle.never_cut.specs.declared.thread_model.ThreadModel.{ThreadModel}
-use Rattle.never_cut.specs.State.{thread_of, source_of, no_thread, no_source, open_model, with_thread}
-use Rattle.never_cut.specs.Commit.{is_of_queue}
-use Rattle.never_cut.specs.Entries.{Readings, readings_of, Legal, effect, fed_by, next_event, pushed, with_accepted, with_refused, with_skipped}
-use Rattle.never_cut.specs.Journal.{after, IsLegal}
-use Rattle.never_cut.specs.Sound.{IsSound, IsSoundSource, IsQueued}
-use Rattle.never_cut.specs.Start.{CanStart}
-use Rattle.never_cut.specs.Reached.{EveryStateStarts}
-use Rattle.push_core.specs.Queue.{event_at}
-use Rattle.never_cut.specs.Within.{AreReadings, HasRoom, IsWithinThread, IsWithinSource, Lasts, LastsThread, is_scanning}
+use Rattle.never_cut.proofs.Common.{◌≡◌, ℕ, suc, ◌+◌, ◌-◌, ◌^◌, ◌<◌, ◌≤◌, Bool, true, false, List, [], ◌∷◌, length, Some, None, refl, sym, subst, arith, inl, inr, All, ForSome, cases_lt, get_or_past, All-nil, All-cons, Event, Origin, Entry, Push, Refuse, Skip, Tick, Scan, Look, Commit, Release, Program, IsAccepted, source_thread, Model, ThreadModel, thread_of, source_of, no_thread, no_source, open_model, with_thread, is_of_queue, Readings, readings_of, Legal, effect, fed_by, next_event, pushed, with_accepted, with_refused, with_skipped, after, IsLegal, IsSound, IsSoundSource, IsQueued, CanStart, EveryStateStarts, event_at, AreReadings, HasRoom, IsWithinThread, IsWithinSource, Lasts, LastsThread, is_scanning}
 use Rattle.ink_base.specs.declared.event.Origin.TheVariants as origins
 use Rattle.never_cut.proofs.Commits.{commit-sources}
 use Rattle.never_cut.proofs.Lasting.{lasts_step, open_lasts}

@@ -1,33 +1,6 @@
 -- Words that stand for a sound state, and in which the sources keep their numbers, are an image.
-use Rattle.std.proofs.Common.{◌≡◌, ◌⊎◌, inl, inr, ℕ, ◌+◌, ◌-◌, ◌%◌, ◌^◌, ◌<◌, ◌≤◌, ◌==◌, Bool, true, false, List, length, take, get_or, Option, Some, None, refl, sym, ap, ◌∙◌, subst, arith, if◌then◌else◌, slice_index, All, eqb-true, le-ltb}
-use Rattle.std.specs.Option.{ForSome}
-use Rattle.std.proofs.lemmas.Bool.{cases_Bool, cases_lt}
-use Rattle.std.proofs.lemmas.List.{get_or_past, get_or-map}
-use Rattle.std.proofs.lemmas.List.Elements.{All-filter, filter_passes}
-use Rattle.ink_base.specs.declared.ids.TaskId.{TaskId}
-use Rattle.ink_base.specs.declared.event.Event.{Event}
-use Rattle.ink_base.specs.declared.event.Origin.{Origin}
-use Rattle.ink_base.specs.declared.output.Output.{Output}
-use Rattle.task_isa.specs.declared.program.Program.{Program}
-use Rattle.fram_words.specs.Places.{Memory, Log, Ring, Tail, Slot, Ack, Src}
-use Rattle.fram_words.specs.Held.{next_word, origin_word, origin_of, due_word, output_word}
-use Rattle.fram_words.proofs.ReadBack.{origin_of-origin_word}
-use Rattle.thread_state.specs.Pages.{committed}
-use Rattle.push_core.specs.Slots.{empty_word}
-use Rattle.push_core.specs.Queue.{Queue, published, event_at, event_source, event_count, StandsSource, IsFinishing}
-use Rattle.prog_check.specs.Accepted.{IsAccepted}
-use Rattle.prog_check.specs.Lookup.{thread_def, pipe_def, source_thread}
-use Rattle.never_cut.specs.declared.model.Model.{Model}
-use Rattle.never_cut.specs.State.{thread_of, pipe_of, timer_of, source_of, queue_of, source_in}
-use Rattle.never_cut.specs.Commit.{outputs_of}
-use Rattle.never_cut.specs.Entries.{Readings}
-use Rattle.never_cut.specs.Stands.{flag, saved, thread_words, owns_timer, Stands}
-use Rattle.never_cut.specs.Ranges.{IsOwnOrigin, IsTaskOf}
-use Rattle.never_cut.specs.Sound.{IsQueued, IsServed, IsChain, IsSound}
-use Rattle.never_cut.specs.Within.{Lasts}
-use Rattle.never_cut.specs.ReadOff.{told_held, told_queue, told_source, is_one_more}
-use Rattle.never_cut.specs.Image.{HasChain, IsChainOrigin, IsTakenLast, IsChainValue, IsBlockWord, IsPipeRight, stamp_at, IsLogWord, IsServedFirst, IsQueueRight, own_events, held_for, IsSourceRight, taken_of, written_of}
-use Rattle.never_cut.specs.Images.{KeepTheirNumbers, EveryStateIsImage}
+use Rattle.never_cut.proofs.Common.{◌≡◌, ◌⊎◌, inl, inr, ℕ, ◌+◌, ◌-◌, ◌%◌, ◌^◌, ◌<◌, ◌≤◌, ◌==◌, Bool, true, false, List, length, take, get_or, Option, Some, None, refl, sym, ap, ◌∙◌, subst, arith, if◌then◌else◌, slice_index, All, eqb-true, le-ltb, ForSome, cases_Bool, cases_lt, get_or_past, get_or-map, All-filter, filter_passes, TaskId, Event, Origin, Output, Program, Memory, Log, Ring, Tail, Slot, Ack, Src, next_word, origin_word, origin_of, due_word, output_word, origin_of-origin_word, committed, empty_word, Queue, published, event_at, event_source, event_count, StandsSource, IsAccepted, thread_def, pipe_def, source_thread, Model, thread_of, pipe_of, timer_of, source_of, queue_of, source_in, outputs_of, Readings, flag, saved, thread_words, owns_timer, Stands, IsOwnOrigin, IsTaskOf, IsQueued, IsServed, IsChain, IsSound, Lasts, told_held, told_queue, told_source, is_one_more, HasChain, IsChainOrigin, IsTakenLast, IsChainValue, IsBlockWord, IsPipeRight, stamp_at, IsLogWord, IsServedFirst, IsQueueRight, own_events, held_for, IsSourceRight, taken_of, written_of, KeepTheirNumbers, EveryStateIsImage}
+use Rattle.push_core.specs.Queue.{IsFinishing}
 use Rattle.std.proofs.lemmas.List.Kept.{IsNonDecreasingBy-filter}
 use Rattle.ink_base.specs.declared.event.Origin.TheVariants as origins
 use Rattle.fram_words.specs.Header as header

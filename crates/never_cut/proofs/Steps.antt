@@ -1,26 +1,6 @@
 -- One legal entry more keeps a state within its bounds.
-use Rattle.std.proofs.Common.{◌≡◌, ℕ, ◌+◌, ◌<◌, ◌≤◌, ◌^◌, Bool, true, false, length, Option, Some, None, refl, ◌∙◌, subst, arith, if◌then◌else◌, length-set}
-use Rattle.ink_base.specs.declared.ids.ThreadId.{ThreadId}
-use Rattle.ink_base.specs.declared.event.Event.{Event}
-use Rattle.ink_base.specs.declared.entry.Entry.{Entry}
-use Rattle.ink_base.specs.declared.entry.Entry.TheVariants.{Push, Refuse, Skip, Tick, Scan, Look, Commit, Release}
-use Rattle.task_isa.specs.declared.instr.Instr.{Instr}
-use Rattle.task_isa.specs.declared.instr.Instr.TheVariants.{Next}
-use Rattle.task_isa.specs.declared.program.Program.{Program}
-use Rattle.task_isa.specs.declared.program.Task.{Task}
-use Rattle.task_isa.specs.declared.task_end.TaskEnd.{TaskEnd}
-use Rattle.task_isa.proofs.Nexts.{EndsBelow, NamesBelow, task_of_below}
-use Rattle.prog_check.specs.Lookup.{source_thread, task_def, instr_at, first_task}
-use Rattle.prog_check.specs.Accepted.{IsAccepted, IsRightInstr}
-use Rattle.never_cut.specs.declared.model.Model.{Model}
-use Rattle.never_cut.specs.declared.scan_model.ScanModel.{ScanModel}
-use Rattle.never_cut.specs.declared.source_model.SourceModel.{SourceModel}
-use Rattle.never_cut.specs.declared.thread_model.ThreadModel.{ThreadModel}
-use Rattle.never_cut.specs.State.{thread_of, source_of, no_thread, no_source, is_running, with_thread, with_source}
-use Rattle.never_cut.specs.Pending.{pending}
-use Rattle.never_cut.specs.Commit.{commit, consumed, end_at, ended, expired, expired_after, is_expired, moved_on, start_at, taken_from, task_at, thread_after, with_first, committed}
-use Rattle.never_cut.specs.Entries.{Readings, Legal, effect, fed_by, looked, next_event, pushed, released, with_accepted, with_refused, with_skipped}
-use Rattle.never_cut.specs.Within.{IsWithin, IsWithinSource, IsWithinThread}
+use Rattle.never_cut.proofs.Common.{◌≡◌, ℕ, ◌+◌, ◌<◌, ◌≤◌, ◌^◌, Bool, true, false, length, Option, Some, None, refl, ◌∙◌, subst, arith, if◌then◌else◌, length-set, ThreadId, Event, Entry, Push, Refuse, Skip, Tick, Scan, Look, Commit, Release, Instr, Next, Program, Task, TaskEnd, EndsBelow, NamesBelow, task_of_below, source_thread, task_def, instr_at, first_task, IsAccepted, IsRightInstr, Model, ScanModel, SourceModel, ThreadModel, thread_of, source_of, no_thread, no_source, is_running, with_thread, with_source, pending, commit, consumed, end_at, ended, expired, expired_after, is_expired, moved_on, start_at, taken_from, task_at, thread_after, with_first, Readings, Legal, effect, fed_by, looked, next_event, pushed, released, with_accepted, with_refused, with_skipped, IsWithin, IsWithinSource, IsWithinThread}
+use Rattle.never_cut.specs.Commit.{committed}
 use Rattle.never_cut.proofs.Bounds.{each_after_set, ended_thread, expired_thread, later_pipes, later_thread, length-moved_on, length-taken_from, length-with_sends, length-with_timers, pushed_thread, released_thread, sent_pipes, taken_pipes, wider_pipes, wider_thread}
 
 names_below : (program : Program) (task : Task) (instr : Instr) → IsRightInstr program task instr → NamesBelow (length program.tasks) instr

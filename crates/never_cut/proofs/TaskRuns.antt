@@ -1,30 +1,8 @@
 -- What a task of an accepted program leaves behind: it goes on with a task of its thread, ends its service or traps; it keeps the length of its state, sends
 -- and puts out no more than there is room for, and only to pipes that its thread writes, and sets timers of its thread. Numbers keep 32 bits.
-use Rattle.std.proofs.Common.{◌≡◌, ℕ, zero, suc, ◌+◌, ◌<◌, ◌≤◌, ◌-◌, ◌*◌, ◌==◌, ◌/◌, ◌%◌, ◌^◌, Bool, true, false, cond, List, [], ◌∷◌, ◌++◌, length, Option, Some, None, refl, sym, ap, ◌∙◌, arith, subst, inl, inr, length-append, length-set, nat_lt, All, slice_index, ltb-true, ne_eqb}
-use Rattle.std.specs.Option.{ForSome}
-use Rattle.std.proofs.lemmas.Bool.{cases_eq, cases_lt}
-use Rattle.std.proofs.Math.Nat.{div-le_self, mod-le}
-use Rattle.std.proofs.lemmas.List.{get_or_past}
-use Rattle.std.proofs.lemmas.List.Sums.{sum_by-append}
-use Rattle.std.proofs.lemmas.List.Elements.{All-nil, All-cons, All-append}
-use Rattle.ink_base.specs.declared.event.Event.{Event}
-use Rattle.ink_base.specs.declared.event.Origin.{Origin}
-use Rattle.task_isa.specs.declared.act.Act.{Act}
-use Rattle.task_isa.specs.declared.act.Act.TheVariants.{Sets, Goes, Loads, Saves, Puts, Sends, Arms, Stops, Continues, Ends, Traps}
-use Rattle.task_isa.specs.declared.instr.Instr.{Instr}
-use Rattle.task_isa.specs.declared.instr.Instr.TheVariants.{Li, Mov, Add, Sub, Mul, And, Or, Xor, Shl, Shr, Divu, Remu, Ltu, Eq, Ev, Kind, Num, Now, St, Out, Send, Arm, Stop, Next, Done}
-use Rattle.task_isa.specs.declared.outcome.Outcome.{Outcome}
-use Rattle.task_isa.specs.declared.outcome.TrapCode.TheVariants.{Divisor}
-use Rattle.task_isa.specs.declared.program.Program.{Program}
-use Rattle.task_isa.specs.declared.program.Task.{Task}
-use Rattle.task_isa.specs.declared.sent.Sent.{Sent}
-use Rattle.task_isa.specs.declared.timer_set.TimerSet.{TimerSet}
-use Rattle.task_isa.specs.declared.task_end.TaskEnd.{TaskEnd}
-use Rattle.task_isa.specs.declared.task_start.TaskStart.{TaskStart}
-use Rattle.task_isa.specs.Acts.{Given, Cpu, reg, divided, bit_of, kind_of, number_of, act_of}
-use Rattle.task_isa.specs.Meaning.{Config, Effects, Room, Stepped, GoesOn, IsOver, HasTrapped, RunEnd, Ended, Trapped, execute, run, has_room, sent_to, task_end, task_of, run_of, given_of, room_of, first_config, no_effects, instr_at}
-use Rattle.prog_check.specs.Lookup.{pipe_def, timer_def, task_def}
-use Rattle.prog_check.specs.Accepted.{IsRightInstr, IsAccepted}
+use Rattle.never_cut.proofs.Common.{◌≡◌, ℕ, zero, suc, ◌+◌, ◌<◌, ◌≤◌, ◌-◌, ◌*◌, ◌==◌, ◌/◌, ◌%◌, ◌^◌, Bool, true, false, cond, List, [], ◌∷◌, ◌++◌, length, Option, Some, None, refl, sym, ap, ◌∙◌, arith, subst, inl, inr, length-append, length-set, nat_lt, All, slice_index, ltb-true, ne_eqb, ForSome, cases_eq, cases_lt, div-le_self, mod-le, get_or_past, sum_by-append, All-nil, All-cons, All-append, Event, Origin, Act, Sets, Goes, Loads, Saves, Puts, Sends, Arms, Stops, Continues, Ends, Traps, Instr, Li, Mov, Add, Sub, Mul, And, Or, Xor, Shl, Shr, Divu, Remu, Ltu, Eq, Ev, Kind, Num, Now, St, Out, Send, Arm, Stop, Next, Done, Outcome, Divisor, Program, Task, Sent, TimerSet, TaskEnd, TaskStart, Given, Cpu, reg, divided, bit_of, kind_of, number_of, Config, Effects, Room, Stepped, GoesOn, IsOver, HasTrapped, RunEnd, Ended, Trapped, execute, run, has_room, sent_to, task_end, task_of, run_of, given_of, room_of, first_config, no_effects, pipe_def, timer_def, task_def, IsRightInstr, IsAccepted}
+use Rattle.task_isa.specs.Acts.{act_of}
+use Rattle.task_isa.specs.Meaning.{instr_at}
 use Rattle.std.specs.Int.Bits.{and_lt}
 use Rattle.std.proofs.lemmas.Nat.{mod_below, or_lt, xor_lt}
 use Rattle.ink_base.specs.declared.event.Origin.TheVariants as origins

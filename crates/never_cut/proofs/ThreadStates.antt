@@ -1,20 +1,6 @@
 -- The state of a thread changes by its own commits alone.
-use Rattle.std.proofs.Common.{◌≡◌, inl, inr, ℕ, ◌<◌, Bool, true, false, List, [], ◌∷◌, length, Option, Some, None, refl, sym, ap, ◌∙◌, subst, length-set, if◌then◌else◌, eq-eqb, ne_eqb}
-use Rattle.std.proofs.lemmas.Bool.{cases_eq}
-use Rattle.ink_base.specs.declared.event.Event.{Event}
-use Rattle.ink_base.specs.declared.entry.Entry.{Entry}
-use Rattle.ink_base.specs.declared.entry.Entry.TheVariants.{Push, Refuse, Skip, Tick, Scan, Look, Commit, Release}
-use Rattle.task_isa.specs.declared.program.Program.{Program}
-use Rattle.prog_check.specs.Lookup.{task_def, source_thread}
-use Rattle.never_cut.specs.declared.model.Model.{Model}
-use Rattle.never_cut.specs.declared.scan_model.ScanModel.{ScanModel}
-use Rattle.never_cut.specs.declared.thread_model.ThreadModel.{ThreadModel}
-use Rattle.never_cut.specs.State.{thread_of, is_running}
-use Rattle.never_cut.specs.Pending.{pending}
-use Rattle.never_cut.specs.Commit.{commit, expired_after, end_at, start_at, task_at, is_expired, thread_after, with_first, committed}
-use Rattle.never_cut.specs.Entries.{Readings, effect, next_event, fed_by, pushed, released}
-use Rattle.never_cut.specs.Journal.{after}
-use Rattle.never_cut.specs.Laws.{state_after, state_at_end, state_by, state_from, StatesByCommits}
+use Rattle.never_cut.proofs.Common.{◌≡◌, inl, inr, ℕ, ◌<◌, Bool, true, false, List, [], ◌∷◌, length, Option, Some, None, refl, sym, ap, ◌∙◌, subst, length-set, if◌then◌else◌, eq-eqb, ne_eqb, cases_eq, Event, Entry, Push, Refuse, Skip, Tick, Scan, Look, Commit, Release, Program, task_def, source_thread, Model, ScanModel, ThreadModel, thread_of, is_running, pending, commit, expired_after, end_at, start_at, task_at, is_expired, thread_after, with_first, Readings, effect, next_event, fed_by, pushed, released, after, state_after, state_at_end, state_by, state_from, StatesByCommits}
+use Rattle.never_cut.specs.Commit.{committed}
 use Rattle.never_cut.proofs.Threads.{kept-set}
 use Rattle.never_cut.proofs.Commits.{committed-own, commit-other, commit-count}
 use Rattle.never_cut.proofs.Traps.{after_task}

@@ -1,11 +1,5 @@
 -- A state with one thread in another's place.
-use Rattle.std.proofs.Common.{◌≡◌, ◌≢◌, inl, inr, ℕ, ◌<◌, List, length, get_or, set, sym, ap, ◌∙◌, get_or-set_same, get_or-set_other}
-use Rattle.std.proofs.lemmas.Bool.{cases_eq, cases_lt}
-use Rattle.std.proofs.lemmas.List.{set_past}
-use Rattle.std.proofs.lemmas.Grind.{get_or-set_at}
-use Rattle.never_cut.specs.declared.model.Model.{Model}
-use Rattle.never_cut.specs.declared.thread_model.ThreadModel.{ThreadModel}
-use Rattle.never_cut.specs.State.{no_thread, thread_of, with_thread}
+use Rattle.never_cut.proofs.Common.{◌≡◌, ◌≢◌, inl, inr, ℕ, ◌<◌, List, length, get_or, set, sym, ap, ◌∙◌, get_or-set_same, get_or-set_other, cases_eq, cases_lt, set_past, get_or-set_at, Model, ThreadModel, no_thread, thread_of, with_thread}
 
 pub thread_of-with_same : (m : Model) (t : ℕ) (x : ThreadModel) → t < length m.threads → thread_of (with_thread m t x) t ≡ x
 thread_of-with_same m t x lt = get_or-set_same m.threads t x no_thread lt

@@ -1,18 +1,5 @@
 -- The pending event of an idle thread, where it is of a timer, was due by the scan's time.
-use Rattle.std.proofs.Common.{◌≡◌, ℕ, zero, suc, ◌+◌, ◌<◌, ◌≤◌, ◌^◌, Bool, true, false, List, [], ◌∷◌, Option, Some, None, refl, subst, arith, All, ◌==◌, ◌&&◌, if◌then◌else◌, drop, length, leb-true}
-use Rattle.std.proofs.lemmas.List.Elements.{All-drop}
-use Rattle.ink_base.specs.declared.ids.TaskId.{TaskId}
-use Rattle.ink_base.specs.declared.event.Event.{Event}
-use Rattle.ink_base.specs.declared.event.Origin.{Origin}
-use Rattle.task_isa.specs.declared.program.Program.{Program}
-use Rattle.prog_check.specs.Lookup.{timer_def}
-use Rattle.never_cut.specs.declared.model.Model.{Model}
-use Rattle.never_cut.specs.declared.scan_model.ScanModel.{ScanModel}
-use Rattle.never_cut.specs.declared.thread_model.ThreadModel.{ThreadModel}
-use Rattle.never_cut.specs.State.{thread_of, timer_of, is_looked, is_running, unfinished}
-use Rattle.never_cut.specs.Pending.{first_number, first_of, has_item, has_due, is_due_by, item_event, timer_event, due_event, later_event, pending_in, pending}
-use Rattle.never_cut.specs.Commit.{is_of_queue}
-use Rattle.never_cut.specs.Within.{IsTimely, IsWithin}
+use Rattle.never_cut.proofs.Common.{◌≡◌, ℕ, zero, suc, ◌+◌, ◌<◌, ◌≤◌, ◌^◌, Bool, true, false, List, [], ◌∷◌, Option, Some, None, refl, subst, arith, All, ◌==◌, ◌&&◌, if◌then◌else◌, drop, length, leb-true, All-drop, TaskId, Event, Origin, Program, timer_def, Model, ScanModel, ThreadModel, thread_of, timer_of, is_looked, is_running, unfinished, first_number, first_of, has_item, has_due, is_due_by, item_event, timer_event, due_event, later_event, pending_in, pending, is_of_queue, IsTimely, IsWithin}
 use Rattle.ink_base.specs.declared.event.Origin.TheVariants as origins
 
 holds_by : (test : ℕ → Bool) (at count j : ℕ) (b : Bool) → test at ≡ b → (first_number test (at + 1) count ≡ Some j → test j ≡ true) →

@@ -1,21 +1,5 @@
 -- The words of a queue tell the queue that they stand for.
-use Rattle.std.proofs.Common.{◌≡◌, inl, inr, ℕ, zero, suc, ◌+◌, ◌-◌, ◌<◌, ◌≤◌, ◌==◌, ◌&&◌, Bool, true, false, List, [], ◌∷◌, length, Option, Some, None, refl, ap, ◌∙◌, subst, arith, nat_lt, if◌then◌else◌, eq-eqb, ne_eqb, lt-ltb, le-ltb}
-use Rattle.std.proofs.lemmas.Bool.{cases_lt, and_from}
-use Rattle.ink_base.specs.declared.event.Event.{Event}
-use Rattle.ink_base.specs.declared.event.Origin.{Origin}
-use Rattle.task_isa.specs.declared.program.Program.{Program}
-use Rattle.fram_words.specs.Places.{Memory, Tail}
-use Rattle.thread_state.specs.Pages.{committed}
-use Rattle.push_core.specs.declared.slot.Slot.TheVariants.{Empty, Full}
-use Rattle.push_core.specs.Queue.{event_at, event_slot}
-use Rattle.prog_check.specs.Accepted.{IsAccepted}
-use Rattle.prog_check.specs.Lookup.{thread_def, source_thread}
-use Rattle.never_cut.specs.declared.model.Model.{Model}
-use Rattle.never_cut.specs.State.{thread_of, queue_of}
-use Rattle.never_cut.specs.Entries.{Readings}
-use Rattle.never_cut.specs.Stands.{flag, slots_of, Stands}
-use Rattle.never_cut.specs.Sound.{IsQueued, IsSound}
-use Rattle.never_cut.specs.ReadOff.{slot_of, is_full_of, event_in, events_from, told_finished, told_released, told_held, told_queue}
+use Rattle.never_cut.proofs.Common.{◌≡◌, inl, inr, ℕ, zero, suc, ◌+◌, ◌-◌, ◌<◌, ◌≤◌, ◌==◌, ◌&&◌, Bool, true, false, List, [], ◌∷◌, length, Option, Some, None, refl, ap, ◌∙◌, subst, arith, nat_lt, if◌then◌else◌, eq-eqb, ne_eqb, lt-ltb, le-ltb, cases_lt, and_from, Event, Origin, Program, Memory, Tail, committed, Empty, Full, event_at, event_slot, IsAccepted, thread_def, source_thread, Model, thread_of, queue_of, Readings, flag, slots_of, Stands, IsQueued, IsSound, slot_of, is_full_of, event_in, events_from, told_finished, told_released, told_held, told_queue}
 use Rattle.ink_base.specs.declared.event.Origin.TheVariants as origins
 use Rattle.fram_words.specs.Header as header
 use Rattle.push_core.specs.declared.slot.Slot as slot

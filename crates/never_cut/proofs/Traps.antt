@@ -1,16 +1,6 @@
 -- A task that traps leaves its thread's state.
-use Rattle.std.proofs.Common.{◌≡◌, ℕ, zero, suc, Bool, true, false, List, length, refl, if◌then◌else◌, nat_lt}
-use Rattle.task_isa.specs.declared.act.Act.{Act}
-use Rattle.task_isa.specs.declared.act.Act.TheVariants.{Sets, Loads, Saves, Puts, Sends, Continues, Traps, Ends, Goes, Arms, Stops}
-use Rattle.task_isa.specs.declared.instr.Instr.{Instr}
-use Rattle.task_isa.specs.declared.outcome.Outcome.{Outcome}
-use Rattle.task_isa.specs.declared.outcome.TrapCode.TheVariants.{Index, LogFull}
-use Rattle.task_isa.specs.declared.task_start.TaskStart.{TaskStart}
-use Rattle.task_isa.specs.Acts.{Given, act_of}
-use Rattle.task_isa.specs.Meaning.{Config, Room, RunEnd, Ended, Trapped, Stepped, GoesOn, IsOver, HasTrapped, execute, first_config, given_of, has_room, room_of, run, run_of, task_end, task_of, instr_at}
-use Rattle.ink_base.specs.declared.event.Event.{Event}
-use Rattle.never_cut.specs.declared.thread_model.ThreadModel.{ThreadModel}
-use Rattle.never_cut.specs.Commit.{thread_after}
+use Rattle.never_cut.proofs.Common.{◌≡◌, ℕ, zero, suc, Bool, true, false, List, length, refl, if◌then◌else◌, nat_lt, Act, Sets, Loads, Saves, Puts, Sends, Continues, Traps, Ends, Goes, Arms, Stops, Instr, Outcome, Index, LogFull, TaskStart, Given, act_of, Config, Room, RunEnd, Ended, Trapped, Stepped, GoesOn, IsOver, HasTrapped, execute, first_config, given_of, has_room, room_of, run, run_of, task_end, task_of, Event, ThreadModel, thread_after}
+use Rattle.task_isa.specs.Meaning.{instr_at}
 use Rattle.task_isa.specs.declared.outcome.Outcome.TheVariants as outcomes
 
 abbrev IsNoTrap : Outcome → Type 0

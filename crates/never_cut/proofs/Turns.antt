@@ -1,19 +1,5 @@
 -- A thread that serves the events of its queue in turn.
-use Rattle.std.proofs.Common.{◌≡◌, ℕ, ◌+◌, ◌<◌, Bool, true, false, List, [], ◌∷◌, ◌++◌, length, drop, Option, Some, None, refl, sym, ap, ◌∙◌, subst, arith, length-append, ◌||◌, not, if◌then◌else◌}
-use Rattle.std.specs.Option.{ForSome}
-use Rattle.ink_base.specs.declared.ids.TaskId.{TaskId}
-use Rattle.ink_base.specs.declared.event.Event.{Event}
-use Rattle.task_isa.specs.declared.outcome.Outcome.{Outcome}
-use Rattle.task_isa.specs.declared.program.Program.{Program}
-use Rattle.task_isa.specs.declared.task_end.TaskEnd.{TaskEnd}
-use Rattle.never_cut.specs.declared.model.Model.{Model}
-use Rattle.never_cut.specs.declared.scan_model.ScanModel.{ScanModel}
-use Rattle.never_cut.specs.declared.thread_model.ThreadModel.{ThreadModel}
-use Rattle.never_cut.specs.State.{thread_of, timer_of, is_running, is_looked, unfinished}
-use Rattle.never_cut.specs.Pending.{pending, pending_in, later_event, due_event, first_of, first_number, has_item, has_due, item_event, timer_event}
-use Rattle.never_cut.specs.Commit.{end_at, expired_after, is_expired, is_of_queue, thread_after, with_end, with_first}
-use Rattle.never_cut.specs.Entries.{pushed, released}
-use Rattle.never_cut.specs.Laws.{of_queue}
+use Rattle.never_cut.proofs.Common.{◌≡◌, ℕ, ◌+◌, ◌<◌, Bool, true, false, List, [], ◌∷◌, ◌++◌, length, drop, Option, Some, None, refl, sym, ap, ◌∙◌, subst, arith, length-append, ◌||◌, not, if◌then◌else◌, ForSome, TaskId, Event, Outcome, Program, TaskEnd, Model, ScanModel, ThreadModel, thread_of, timer_of, is_running, is_looked, unfinished, pending, pending_in, later_event, due_event, first_of, first_number, has_item, has_due, item_event, timer_event, end_at, expired_after, is_expired, is_of_queue, thread_after, with_end, with_first, pushed, released, of_queue}
 use Rattle.task_isa.specs.declared.outcome.Outcome.TheVariants as outcomes
 use Rattle.never_cut.proofs.Commits.{thread_committed}
 

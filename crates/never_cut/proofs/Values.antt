@@ -1,5 +1,5 @@
 -- Lists of numbers that have 32 bits.
-use Rattle.std.proofs.Common.{ℕ, zero, suc, ◌+◌, ◌^◌, ◌<◌, List, [], ◌∷◌, ◌++◌, replicate, set, arith, slice_index}
+use Rattle.never_cut.proofs.Common.{ℕ, zero, suc, ◌+◌, ◌^◌, ◌<◌, List, [], ◌∷◌, ◌++◌, replicate, set, arith, slice_index}
 
 -- each number of a list
 abbrev pub HaveBits : List ℕ → Type 0

@@ -1,8 +1,7 @@
 -- What is drawn from a later state.
-use Rattle.std.proofs.Common.{◌≡◌, ℕ, zero, suc, ◌+◌, ◌*◌, ◌/◌, ◌^◌, List, [], ◌∷◌, ◌++◌, refl, sym, ap, ◌∙◌, add-one, zero-add}
+use Rattle.power_trace.proofs.Common.{◌≡◌, ℕ, zero, suc, ◌+◌, ◌*◌, ◌/◌, ◌^◌, List, [], ◌∷◌, ◌++◌, refl, sym, ap, ◌∙◌, add-one, zero-add, Charge, next_state, draw, drawn_charge}
 use Rattle.std.proofs.Math.Nat.{add-zero, add-suc}
-use Rattle.job_parts.specs.declared.charge.Charge.{Charge}
-use Rattle.power_trace.specs.Soak.{next_state, state_after, draw, draws, drawn_charge, drawn_charges}
+use Rattle.power_trace.specs.Soak.{state_after, draws, drawn_charges}
 
 state_after-add : (x m n : ℕ) → state_after (state_after x m) n ≡ state_after x (m + n)
 unfolding state_after

@@ -1,11 +1,6 @@
 -- What a reading that went well says of its parts, and what its steps keep.
-use Rattle.std.proofs.Common.{◌≡◌, ℕ, Bool, true, false, cond, List, [], ◌∷◌, Result, Ok, Err, refl, ap, subst, inl, inr}
-use Rattle.std.proofs.lemmas.Bool.{cases_Bool}
-use Rattle.ink_base.specs.Lines.{Word, Line}
-use Rattle.ink_base.specs.declared.fault.Cause.{Cause}
-use Rattle.ink_base.specs.declared.fault.JobFault.{JobFault}
-use Rattle.ink_base.specs.Gives.{◌>>=◌, ◌>>◌, at_line}
-use Rattle.ink_text.specs.Section.{is_header, header_end, section_in, lines_in}
+use Rattle.power_trace.proofs.Common.{◌≡◌, ℕ, Bool, true, false, cond, List, [], ◌∷◌, Result, Ok, Err, refl, ap, subst, inl, inr, cases_Bool, Word, Line, Cause, JobFault, ◌>>=◌, ◌>>◌, at_line, is_header, header_end}
+use Rattle.ink_text.specs.Section.{section_in, lines_in}
 use Rattle.ink_text.specs.Words.{words_in}
 
 pub bound : {A B : Type 0} (r : Result A Cause) (f : A → Result B Cause) (y : B) → (r >>= f) ≡ Ok y → (x : A) × (r ≡ Ok x) × (f x ≡ Ok y)

@@ -1,22 +1,8 @@
 -- The readings of a section are within the limits, one list for each source.
-use Rattle.std.proofs.Common.{◌≡◌, ℕ, ◌<◌, ◌≤◌, ◌^◌, List, [], ◌∷◌, ◌++◌, length, get_or, set, Option, Some, None, Result, Ok, Err, ap, ◌∙◌, subst, inl, inr, arith, length-append}
-use Rattle.std.specs.Prelude.{if◌then◌else◌, replicate, nat_lt, nat_le, ◌==◌, codes}
-use Rattle.std.specs.List.{All}
-use Rattle.std.proofs.lemmas.Bool.{cases_Bool, leb-true, ltb-true}
-use Rattle.std.proofs.lemmas.List.Elements.{All-push, All-set, All-replicate}
-use Rattle.std.proofs.lemmas.List.{length-set, length-replicate}
-use Rattle.ink_base.specs.Lines.{Word, Line}
+use Rattle.power_trace.proofs.Common.{◌≡◌, ℕ, ◌<◌, ◌≤◌, ◌^◌, List, [], ◌∷◌, ◌++◌, length, get_or, set, Option, Some, None, Result, Ok, Err, ap, ◌∙◌, subst, inl, inr, arith, length-append, if◌then◌else◌, replicate, nat_lt, nat_le, ◌==◌, codes, All, cases_Bool, leb-true, ltb-true, All-push, All-set, All-replicate, length-set, Word, Line, Cause, OverLimit, JobFault, ◌>>=◌, ◌>>◌, number_of, word_in, words_in, up_to, found, index_of, below, source_of, next_header, section_in, value_in, AreReadings}
+use Rattle.std.proofs.lemmas.List.{length-replicate}
 use Rattle.ink_base.specs.declared.limits.TheConstants as limits
-use Rattle.ink_base.specs.declared.fault.Cause.{Cause}
-use Rattle.ink_base.specs.declared.fault.Cause.TheVariants.{OverLimit}
-use Rattle.ink_base.specs.declared.fault.JobFault.{JobFault}
-use Rattle.ink_base.specs.Gives.{◌>>=◌, ◌>>◌}
-use Rattle.ink_base.specs.Checks.{number_of, word_in}
-use Rattle.ink_text.specs.Words.{words_in, up_to, found}
-use Rattle.ink_text.specs.Names.{index_of, below, source_of}
-use Rattle.ink_text.specs.Section.{next_header, section_in}
-use Rattle.power_trace.specs.Sensors.{value_in, sensor_line, sensors_in}
-use Rattle.job_parts.specs.Job.{AreReadings}
+use Rattle.power_trace.specs.Sensors.{sensor_line, sensors_in}
 use Rattle.power_trace.proofs.Inverted.{bound, bound_line, tested, words_keep, section_keeps}
 
 pub up_to-le : (greatest : ℕ) (w : Word) (n : ℕ) → up_to greatest w ≡ Ok n → n ≤ greatest

@@ -1,33 +1,17 @@
 -- The charges of a section are within the limits, and their actors are on the board.
-use Rattle.std.proofs.Common.{◌≡◌, ℕ, ◌+◌, ◌<◌, ◌≤◌, List, [], ◌∷◌, ◌++◌, length, take, Option, Some, None, Result, Ok, Err, refl, ap, subst, inl, inr, arith, length-append}
-use Rattle.std.specs.Prelude.{if◌then◌else◌, nat_lt, nat_le, ◌&&◌, not, ◌==◌, codes}
-use Rattle.std.specs.List.{All}
+use Rattle.power_trace.proofs.Common.{◌≡◌, ℕ, ◌+◌, ◌<◌, ◌≤◌, List, [], ◌∷◌, ◌++◌, length, take, Option, Some, None, Result, Ok, Err, refl, ap, subst, inl, inr, arith, length-append, if◌then◌else◌, nat_lt, nat_le, ◌&&◌, not, ◌==◌, codes, All, cases_Bool, and_parts, leb-true, ltb-true, All-push, sum_by-append, Word, Line, Cause, OverLimit, JobFault, ◌>>=◌, ◌>>◌, number_of, word_in, fixed_in, Item, Charge, words_in, source_of, actor_of, missing, section_in, known_actor, star_of, count_at, room_in, no_charges, IsOnBoard, IsRightCharge, item_turns, charge_turns, AreCharges}
 use Rattle.std.specs.Option.{option_map}
 use Rattle.std.specs.Str.{bytes_eq}
-use Rattle.std.proofs.lemmas.Bool.{cases_Bool, and_parts, leb-true, ltb-true}
 use Rattle.std.proofs.lemmas.Bool.Decides.{nat_tests}
-use Rattle.std.proofs.lemmas.List.Elements.{All-push}
-use Rattle.std.proofs.lemmas.List.Sums.{sum_by-append}
-use Rattle.ink_base.specs.Lines.{Word, Line}
 use Rattle.ink_base.specs.declared.limits.TheConstants as limits
 use Rattle.ink_base.specs.declared.actor.Actor.{Actor}
 use Rattle.ink_base.specs.declared.actor.Actor.TheVariants.{Kernel, Source, Clock}
-use Rattle.ink_base.specs.declared.fault.Cause.{Cause}
-use Rattle.ink_base.specs.declared.fault.Cause.TheVariants.{OverLimit}
-use Rattle.ink_base.specs.declared.fault.JobFault.{JobFault}
-use Rattle.ink_base.specs.Gives.{◌>>=◌, ◌>>◌}
-use Rattle.ink_base.specs.Checks.{number_of, word_in, fixed_in, number_in}
-use Rattle.job_parts.specs.declared.item.Item.{Item}
-use Rattle.job_parts.specs.declared.charge.Charge.{Charge}
+use Rattle.ink_base.specs.Checks.{number_in}
 use Rattle.power_trace.specs.declared.charges.Charges.{Charges}
 use Rattle.power_trace.specs.declared.charges.Turns.{Turns}
 use Rattle.power_trace.specs.declared.tails.Tails.{Tails}
 use Rattle.power_trace.specs.Tails.{allows, tail_header}
-use Rattle.ink_text.specs.Words.{words_in}
-use Rattle.ink_text.specs.Names.{source_of, actor_of}
-use Rattle.ink_text.specs.Section.{missing, section_in}
-use Rattle.power_trace.specs.Power.{known_actor, star_of, count_at, item_of, item_in, room_in, charge_line, power_end, no_charges, power_in}
-use Rattle.job_parts.specs.Job.{IsOnBoard, IsRightCharge, item_turns, charge_turns, AreCharges}
+use Rattle.power_trace.specs.Power.{item_of, item_in, charge_line, power_end, power_in}
 use Rattle.power_trace.proofs.Inverted.{bound, bound_line, in_line, tested, tested_not, words_keep, section_keeps}
 use Rattle.power_trace.proofs.Kept.{source_below, found_is}
 

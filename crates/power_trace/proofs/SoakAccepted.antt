@@ -1,9 +1,8 @@
 -- The program of a generated job has no fault, whatever its lines are.
-use Rattle.std.proofs.Common.{◌≡◌, None, Ok, refl, ap}
+use Rattle.power_trace.proofs.Common.{◌≡◌, None, Ok, refl, ap, soak_program}
 use Rattle.task_isa.specs.declared.lines.Lines.{Lines}
 use Rattle.task_isa.specs.declared.program.Program.{Program}
 use Rattle.prog_check.specs.Faults.{first_below, thread_fault, source_fault, instr_fault, task_fault, limit_fault, target_fault, code_fault, meaning_fault, first_fault, verdict}
-use Rattle.power_trace.specs.Soak.{soak_program}
 
 thread_right : (lines : Lines) → thread_fault soak_program lines 0 ≡ None
 unfolding thread_fault

@@ -1,14 +1,8 @@
 -- A generated job is within the limits of jobs.
-use Rattle.std.proofs.Common.{◌≡◌, ℕ, zero, suc, ◌+◌, ◌*◌, ◌^◌, ◌<◌, ◌≤◌, [], ◌∷◌, length, refl, arith, length-append}
-use Rattle.std.specs.List.{All}
+use Rattle.power_trace.proofs.Common.{◌≡◌, ℕ, zero, suc, ◌+◌, ◌*◌, ◌^◌, ◌<◌, ◌≤◌, [], ◌∷◌, length, refl, arith, length-append, All, All-nil, All-push, All-from_recursion, sum_by_push, Item, Charge, JobParts, AreReadings, IsOnBoard, IsRightCharge, item_turns, charge_turns, AreCharges, IsJob, draw, drawn_items, drawn_charge, last_charge, soak_readings, soak_charges, soak_program}
 use Rattle.std.proofs.lemmas.Nat.{mod_below, shr_below}
-use Rattle.std.proofs.lemmas.List.Elements.{All-nil, All-push, All-from_recursion}
-use Rattle.std.proofs.lemmas.List.Sums.{sum_by_push}
-use Rattle.job_parts.specs.declared.item.Item.{Item}
-use Rattle.job_parts.specs.declared.charge.Charge.{Charge}
 use Rattle.prog_check.specs.Accepted.{IsAccepted}
-use Rattle.job_parts.specs.Job.{JobParts, AreReadings, IsOnBoard, IsRightCharge, item_turns, charge_turns, AreCharges, IsJob}
-use Rattle.power_trace.specs.Soak.{state_after, draw, draws, drawn_items, drawn_charge, drawn_charges, last_charge, soak_readings, soak_charges, soak_program}
+use Rattle.power_trace.specs.Soak.{state_after, draws, drawn_charges}
 
 draw_below : (x n : ℕ) → draw x n < 2 ^ 16
 unfolding state_after

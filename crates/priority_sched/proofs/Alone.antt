@@ -1,25 +1,5 @@
 -- A scan that finds words in the ranges of their places stays within its own.
-use Rattle.std.proofs.Common.{◌≡◌, ◌≢◌, ℕ, ◌+◌, ◌-◌, ◌*◌, ◌/◌, ◌%◌, ◌^◌, ◌<◌, ◌≤◌, length, Option, Some, None, arith, refl, ap, ◌∙◌, sym, inl, inr, subst, ◌==◌, nat_lt, nat_le, eqb-true, ne_eqb, lt-ltb, le-ltb}
-use Rattle.std.specs.Option.{ForSome}
-use Rattle.std.proofs.lemmas.Bool.{cases_Bool, cases_eq, cases_lt}
-use Rattle.std.proofs.lemmas.Option.{same_Some}
-use Rattle.ink_base.specs.declared.ids.ThreadId.{ThreadId}
-use Rattle.ink_base.specs.declared.ids.TaskId.{TaskId}
-use Rattle.ink_base.specs.declared.event.Event.{Event}
-use Rattle.task_isa.specs.declared.program.Program.{Program}
-use Rattle.push_core.specs.Slots.{slot_in}
-use Rattle.prog_check.specs.Accepted.{IsAccepted}
-use Rattle.prog_check.specs.Lookup.{pipe_def, timer_def}
-use Rattle.priority_sched.specs.declared.chain.Chain.{Chain}
-use Rattle.priority_sched.specs.declared.idle.Idle.{Idle}
-use Rattle.priority_sched.specs.declared.scan_at.ScanAt.{ScanAt}
-use Rattle.priority_sched.specs.declared.scan_at.ScanAt.TheVariants.{Clock, Commit, Running, Finished, Origin, Value, First, Slot, Taken, Writer, Written, Item, Timer, Picked, Quiet}
-use Rattle.priority_sched.specs.declared.machine.ScanMachine.{ScanMachine}
-use Rattle.priority_sched.specs.Order.{next_below, priority_of}
-use Rattle.priority_sched.specs.Picks.{chain_pick}
-use Rattle.priority_sched.specs.Scan.{event_at, is_reader, is_owner, next_pipe, next_timer, scan_next, at_pipe, at_timer, after_finished, after_value, after_look, after_timer, scan_wants, scan_takes, IsScanRow, IsScan}
-use Rattle.fram_words.proofs.ReadBack.{origin_of-origin_word}
-use Rattle.fram_words.specs.Held.{running_of, origin_of, HasOriginBits}
+use Rattle.priority_sched.proofs.Common.{◌≡◌, ◌≢◌, ℕ, ◌+◌, ◌-◌, ◌*◌, ◌/◌, ◌%◌, ◌^◌, ◌<◌, ◌≤◌, length, Option, Some, None, arith, refl, ap, ◌∙◌, sym, inl, inr, subst, ◌==◌, nat_lt, nat_le, eqb-true, ne_eqb, lt-ltb, le-ltb, ForSome, cases_Bool, cases_eq, cases_lt, same_Some, ThreadId, TaskId, Event, Program, slot_in, IsAccepted, pipe_def, timer_def, Chain, Idle, ScanAt, Clock, Commit, Running, Finished, Origin, Value, First, Slot, Taken, Writer, Written, Item, Timer, Picked, Quiet, ScanMachine, next_below, priority_of, chain_pick, event_at, is_reader, is_owner, next_pipe, next_timer, scan_next, at_pipe, at_timer, after_finished, after_value, after_look, after_timer, scan_wants, scan_takes, IsScanRow, IsScan, origin_of-origin_word, running_of, origin_of, HasOriginBits}
 use Rattle.ink_base.specs.declared.event.Origin as origin
 use Rattle.ink_base.specs.declared.event.Origin.TheVariants as origins
 use Rattle.push_core.specs.Table.{greatest_tail}

@@ -1,30 +1,5 @@
 -- The accesses that find a running chain.
-use Rattle.std.proofs.Common.{◌≡◌, ℕ, ◌+◌, ◌%◌, ◌^◌, ◌<◌, ◌≤◌, true, List, [], ◌∷◌, length, Option, Some, None, arith, refl, ap, ◌∙◌, sym, subst}
-use Rattle.std.specs.Option.{ForSome}
-use Rattle.std.proofs.lemmas.Option.{same_Some}
-use Rattle.ink_base.specs.declared.ids.ThreadId.{ThreadId}
-use Rattle.ink_base.specs.declared.ids.TaskId.{TaskId}
-use Rattle.ink_base.specs.declared.event.Event.{Event}
-use Rattle.task_isa.specs.declared.program.Program.{Program}
-use Rattle.fram_words.specs.Places.{Memory}
-use Rattle.thread_state.specs.Pages.{place_in}
-use Rattle.prog_check.specs.Accepted.{IsAccepted}
-use Rattle.prog_check.specs.Lookup.{thread_def}
-use Rattle.never_cut.specs.declared.model.Model.{Model}
-use Rattle.never_cut.specs.State.{thread_of, pipe_of}
-use Rattle.never_cut.specs.Entries.{Readings, IsCalm}
-use Rattle.never_cut.specs.Sound.{IsSound, IsChain, IsServed, IsQueued}
-use Rattle.never_cut.specs.Within.{Lasts}
-use Rattle.never_cut.specs.kept.Actors.{IsFirstHeld}
-use Rattle.never_cut.specs.kept.Steps.{Background}
-use Rattle.never_cut.proofs.Picks.{pending-running}
-use Rattle.priority_sched.specs.declared.chain.Chain.{Chain}
-use Rattle.priority_sched.specs.declared.scan_at.ScanAt.TheVariants.{Origin, Value, First, Picked}
-use Rattle.priority_sched.specs.Picks.{chain_pick}
-use Rattle.priority_sched.specs.Scan.{scan_at, after_value}
-use Rattle.priority_sched.specs.Knows.{KnowsChain, HasOrigin, ScanHolds}
-use Rattle.fram_words.proofs.ReadBack.{origin_of-origin_word}
-use Rattle.fram_words.specs.Held.{origin_of, HasOriginBits}
+use Rattle.priority_sched.proofs.Common.{◌≡◌, ℕ, ◌+◌, ◌%◌, ◌^◌, ◌<◌, ◌≤◌, true, List, [], ◌∷◌, length, Option, Some, None, arith, refl, ap, ◌∙◌, sym, subst, ForSome, same_Some, ThreadId, TaskId, Event, Program, Memory, place_in, IsAccepted, thread_def, Model, thread_of, pipe_of, Readings, IsCalm, IsSound, IsChain, IsServed, IsQueued, Lasts, IsFirstHeld, Background, pending-running, Chain, Origin, Value, First, Picked, chain_pick, scan_at, after_value, KnowsChain, HasOrigin, ScanHolds, origin_of-origin_word, origin_of, HasOriginBits}
 use Rattle.ink_base.specs.declared.event.Origin as origin
 use Rattle.ink_base.specs.declared.event.Origin.TheVariants as origins
 use Rattle.fram_words.specs.Header as header

@@ -1,20 +1,5 @@
 -- What a scan knows outlasts the accesses of the other actors.
-use Rattle.std.proofs.Common.{◌≡◌, ℕ, ◌<◌, false, List, length, sym, ap, ◌∙◌, subst, slice_index_or}
-use Rattle.task_isa.specs.declared.program.Program.{Program}
-use Rattle.fram_words.specs.Places.{Memory}
-use Rattle.never_cut.specs.declared.model.Model.{Model}
-use Rattle.never_cut.specs.State.{thread_of, pipe_of, no_pipe}
-use Rattle.never_cut.specs.Pending.{has_item, has_due}
-use Rattle.never_cut.specs.kept.Actors.{SamePrivate, Follows}
-use Rattle.never_cut.proofs.Picks.{passed_follows, picked_follows}
-use Rattle.priority_sched.specs.declared.chain.Chain.{Chain}
-use Rattle.priority_sched.specs.declared.idle.Idle.{Idle}
-use Rattle.priority_sched.specs.declared.idle.Waiting.{Waiting}
-use Rattle.priority_sched.specs.declared.scan_at.ScanAt.{ScanAt}
-use Rattle.priority_sched.specs.declared.scan_at.ScanAt.TheVariants.{Clock, Commit, Running, Finished, Origin, Value, First, Slot, Taken, Writer, Written, Item, Timer, Picked, Quiet}
-use Rattle.priority_sched.specs.declared.machine.ScanMachine.{ScanMachine}
-use Rattle.priority_sched.specs.Scan.{writer_of}
-use Rattle.priority_sched.specs.Knows.{IsReached, KnowsChain, KnowsIdle, KnowsPipe, KnowsWaiting, KnowsTimer, AreEmptyBelow, AreOffBelow, ScanKnows, ScanHolds}
+use Rattle.priority_sched.proofs.Common.{◌≡◌, ℕ, ◌<◌, false, List, length, sym, ap, ◌∙◌, subst, slice_index_or, Program, Memory, Model, thread_of, pipe_of, no_pipe, has_item, has_due, SamePrivate, Follows, passed_follows, picked_follows, Chain, Idle, Waiting, ScanAt, Clock, Commit, Running, Finished, Origin, Value, First, Slot, Taken, Writer, Written, Item, Timer, Picked, Quiet, ScanMachine, writer_of, IsReached, KnowsChain, KnowsIdle, KnowsPipe, KnowsWaiting, KnowsTimer, AreEmptyBelow, AreOffBelow, ScanKnows, ScanHolds}
 use Rattle.fram_words.specs.Places as places
 use Rattle.never_cut.specs.declared.thread_model.ThreadModel.{ThreadModel}
 use Rattle.never_cut.specs.declared.pipe_model.PipeModel.{PipeModel}

@@ -1,16 +1,5 @@
 -- What a scan has found at its end.
-use Rattle.std.proofs.Common.{◌≡◌, ℕ, Some, arith, ◌∙◌, subst}
-use Rattle.std.proofs.lemmas.Option.{same_Some}
-use Rattle.task_isa.specs.declared.program.Program.{Program}
-use Rattle.fram_words.specs.Places.{Memory}
-use Rattle.never_cut.specs.declared.model.Model.{Model}
-use Rattle.never_cut.proofs.Picks.{pending-later}
-use Rattle.priority_sched.specs.declared.scan_at.ScanAt.{ScanAt}
-use Rattle.priority_sched.specs.declared.scan_at.ScanAt.TheVariants.{Clock, Commit, Running, Finished, Origin, Value, First, Slot, Taken, Writer, Written, Item, Timer, Picked, Quiet}
-use Rattle.priority_sched.specs.declared.machine.ScanMachine.{ScanMachine}
-use Rattle.priority_sched.specs.Scan.{scan_at, scan_result}
-use Rattle.priority_sched.specs.Knows.{ArePassedAll, ScanHolds}
-use Rattle.priority_sched.specs.Laws.{IsFound, IsQuiet}
+use Rattle.priority_sched.proofs.Common.{◌≡◌, ℕ, Some, arith, ◌∙◌, subst, same_Some, Program, Memory, Model, pending-later, ScanAt, Clock, Commit, Running, Finished, Origin, Value, First, Slot, Taken, Writer, Written, Item, Timer, Picked, Quiet, ScanMachine, scan_at, scan_result, ArePassedAll, ScanHolds, IsFound, IsQuiet}
 use Rattle.priority_sched.specs.declared.scanned.Scanned.{Scanned}
 
 all_quiet : (program : Program) (m : Model) (time : ℕ) → ArePassedAll program m time → IsQuiet program m

@@ -1,26 +1,5 @@
 -- The accesses that look for an item of a pipe.
-use Rattle.std.proofs.Common.{◌≡◌, ℕ, ◌+◌, ◌<◌, true, false, length, Option, Some, arith, refl, ap, ◌∙◌, sym, inl, inr, subst, ◌&&◌, Bool, nat_lt, slice_index, lt-ltb, le-ltb, eqb-true}
-use Rattle.std.proofs.lemmas.Bool.{cases_eq, cases_lt}
-use Rattle.ink_base.specs.declared.ids.ThreadId.{ThreadId}
-use Rattle.task_isa.specs.declared.program.Program.{Program}
-use Rattle.fram_words.specs.Places.{Memory, Ring}
-use Rattle.event_pipe.specs.Ring.{ring_index}
-use Rattle.thread_state.specs.Pages.{place_in}
-use Rattle.prog_check.specs.Accepted.{IsAccepted}
-use Rattle.prog_check.specs.Lookup.{pipe_def}
-use Rattle.never_cut.specs.declared.model.Model.{Model}
-use Rattle.never_cut.specs.State.{pipe_of}
-use Rattle.never_cut.specs.Pending.{first_number, pending, has_item, has_due, item_event}
-use Rattle.never_cut.specs.Entries.{Readings, IsCalm}
-use Rattle.never_cut.specs.Stands.{StandsPrivate}
-use Rattle.never_cut.specs.kept.Steps.{Background}
-use Rattle.never_cut.proofs.Picks.{pending-later}
-use Rattle.priority_sched.specs.declared.idle.Idle.{Idle}
-use Rattle.priority_sched.specs.declared.idle.Waiting.{Waiting}
-use Rattle.priority_sched.specs.declared.scan_at.ScanAt.TheVariants.{Taken, Writer, Written, Item, Picked}
-use Rattle.priority_sched.specs.Picks.{item_pick}
-use Rattle.priority_sched.specs.Scan.{scan_at, after_taken, after_writer, after_written, is_reader, writer_of}
-use Rattle.priority_sched.specs.Knows.{KnowsIdle, KnowsPipe, KnowsWaiting, AreEmptyBelow, ScanHolds}
+use Rattle.priority_sched.proofs.Common.{◌≡◌, ℕ, ◌+◌, ◌<◌, true, false, length, Option, Some, arith, refl, ap, ◌∙◌, sym, inl, inr, subst, ◌&&◌, Bool, nat_lt, slice_index, lt-ltb, le-ltb, eqb-true, cases_eq, cases_lt, ThreadId, Program, Memory, Ring, ring_index, place_in, IsAccepted, pipe_def, Model, pipe_of, first_number, pending, has_item, has_due, item_event, Readings, IsCalm, StandsPrivate, Background, pending-later, Idle, Waiting, Taken, Writer, Written, Item, Picked, item_pick, scan_at, after_taken, after_writer, after_written, is_reader, writer_of, KnowsIdle, KnowsPipe, KnowsWaiting, AreEmptyBelow, ScanHolds}
 use Rattle.ink_base.specs.declared.ids.PipeId.{PipeId}
 use Rattle.ink_base.specs.declared.event.Origin.TheVariants as origins
 use Rattle.fram_words.specs.Places as places

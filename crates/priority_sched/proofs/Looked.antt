@@ -1,8 +1,5 @@
 -- The threads that a scan has looked at, after one more.
-use Rattle.std.proofs.Common.{◌≡◌, ◌≢◌, ℕ, true, List, [], ◌∷◌, ◌++◌, refl, sym, inl, inr, ◌==◌, eq-eqb, ne_eqb}
-use Rattle.std.proofs.lemmas.Bool.{cases_Bool}
-use Rattle.ink_base.specs.declared.ids.ThreadId.{ThreadId}
-use Rattle.never_cut.specs.State.{is_looked}
+use Rattle.priority_sched.proofs.Common.{◌≡◌, ◌≢◌, ℕ, true, List, [], ◌∷◌, ◌++◌, refl, sym, inl, inr, ◌==◌, eq-eqb, ne_eqb, cases_Bool, ThreadId, is_looked}
 
 -- the last one was looked at
 pub looked-last : (looked : List ThreadId) (t : ThreadId) → is_looked (looked ++ t ∷ []) t.0 ≡ true

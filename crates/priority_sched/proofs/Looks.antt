@@ -1,27 +1,5 @@
 -- The look at the slot of the next event of an idle thread's queue.
-use Rattle.std.proofs.Common.{◌≡◌, ℕ, ◌%◌, ◌<◌, List, [], ◌∷◌, length, Option, Some, None, arith, refl, ap, ◌∙◌, sym, subst, eq-eqb}
-use Rattle.ink_base.specs.declared.ids.ThreadId.{ThreadId}
-use Rattle.ink_base.specs.declared.event.Event.{Event}
-use Rattle.task_isa.specs.declared.program.Program.{Program}
-use Rattle.fram_words.specs.Places.{Memory, Load}
-use Rattle.push_core.specs.Slots.{slot_in}
-use Rattle.push_core.specs.Queue.{event_slot}
-use Rattle.prog_check.specs.Lookup.{thread_def}
-use Rattle.never_cut.specs.declared.model.Model.{Model}
-use Rattle.never_cut.specs.declared.scan_model.ScanModel.{ScanModel}
-use Rattle.never_cut.specs.State.{thread_of}
-use Rattle.never_cut.specs.Entries.{Readings, IsPassed, InScan, MayLook, looked}
-use Rattle.never_cut.specs.Sound.{IsQueued}
-use Rattle.never_cut.specs.kept.Actors.{IsFirstHeld}
-use Rattle.never_cut.specs.kept.Steps.{Background, IsKept}
-use Rattle.never_cut.proofs.Scans.{with_scan, scan_private, scan_queues}
-use Rattle.never_cut.proofs.Picks.{pending-first}
-use Rattle.priority_sched.specs.declared.idle.Idle.{Idle}
-use Rattle.priority_sched.specs.declared.scan_at.ScanAt.TheVariants.{Slot}
-use Rattle.priority_sched.specs.Order.{priority_of}
-use Rattle.priority_sched.specs.Picks.{queue_pick}
-use Rattle.priority_sched.specs.Scan.{scan_at, event_at, after_look, look_point, at_pipe, next_pipe}
-use Rattle.priority_sched.specs.Knows.{IsBefore, KnowsIdle, ScanHolds, ScanStep}
+use Rattle.priority_sched.proofs.Common.{◌≡◌, ℕ, ◌%◌, ◌<◌, List, [], ◌∷◌, length, Option, Some, None, arith, refl, ap, ◌∙◌, sym, subst, eq-eqb, ThreadId, Event, Program, Memory, Load, slot_in, event_slot, thread_def, Model, ScanModel, thread_of, Readings, IsPassed, InScan, MayLook, looked, IsQueued, IsFirstHeld, Background, IsKept, with_scan, scan_private, scan_queues, pending-first, Idle, Slot, priority_of, queue_pick, scan_at, event_at, after_look, look_point, at_pipe, next_pipe, IsBefore, KnowsIdle, ScanHolds, ScanStep}
 use Rattle.ink_base.specs.declared.event.Origin as origin
 use Rattle.ink_base.specs.declared.event.Origin.TheVariants as origins
 use Rattle.fram_words.specs.Places as places

@@ -1,19 +1,5 @@
 -- Where a scan goes on: to the thread's next pipe or timer, or to the next thread.
-use Rattle.std.proofs.Common.{◌≡◌, ◌≢◌, ℕ, ◌+◌, ◌-◌, ◌<◌, ◌≤◌, false, length, Option, Some, None, arith, ap, ◌∙◌, sym, inl, inr, subst, ◌&&◌, Bool, nat_lt}
-use Rattle.std.proofs.lemmas.Bool.{cases_eq, cases_lt}
-use Rattle.ink_base.specs.declared.ids.ThreadId.{ThreadId}
-use Rattle.ink_base.specs.declared.event.Event.{Event}
-use Rattle.task_isa.specs.declared.program.Program.{Program}
-use Rattle.fram_words.specs.Places.{Memory}
-use Rattle.prog_check.specs.Accepted.{IsAccepted}
-use Rattle.never_cut.specs.declared.model.Model.{Model}
-use Rattle.never_cut.specs.State.{pipe_of, timer_of}
-use Rattle.never_cut.specs.Pending.{first_number, has_item, has_due, is_due_by, item_event, due_event, later_event}
-use Rattle.never_cut.specs.Entries.{IsCalm, IsPassed}
-use Rattle.priority_sched.specs.declared.idle.Idle.{Idle}
-use Rattle.priority_sched.specs.Order.{priority_of, next_below, IsHighest}
-use Rattle.priority_sched.specs.Scan.{scan_next, is_reader, is_owner, next_pipe, next_timer, at_pipe, at_timer}
-use Rattle.priority_sched.specs.Knows.{IsReached, KnowsIdle, AreEmptyBelow, AreOffBelow, ScanHolds}
+use Rattle.priority_sched.proofs.Common.{◌≡◌, ◌≢◌, ℕ, ◌+◌, ◌-◌, ◌<◌, ◌≤◌, false, length, Option, Some, None, arith, ap, ◌∙◌, sym, inl, inr, subst, ◌&&◌, Bool, nat_lt, cases_eq, cases_lt, ThreadId, Event, Program, Memory, IsAccepted, Model, pipe_of, timer_of, first_number, has_item, has_due, is_due_by, item_event, due_event, later_event, IsCalm, IsPassed, Idle, priority_of, next_below, IsHighest, scan_next, is_reader, is_owner, next_pipe, next_timer, at_pipe, at_timer, IsReached, KnowsIdle, AreEmptyBelow, AreOffBelow, ScanHolds}
 use Rattle.priority_sched.proofs.Orders.{next_is_highest, same_priority}
 use Rattle.priority_sched.proofs.Searches.{IsSearched, searched, search_none}
 

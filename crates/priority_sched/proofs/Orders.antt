@@ -1,10 +1,5 @@
 -- The next thread of a scan is the one of the greatest priority below that of the last one.
-use Rattle.std.proofs.Common.{◌≡◌, ℕ, zero, suc, ◌<◌, ◌≤◌, length, Option, Some, None, arith, sym, inl, inr, subst, lt-ltb, le-ltb}
-use Rattle.std.proofs.lemmas.Bool.{cases_lt, cases_eq}
-use Rattle.ink_base.specs.declared.ids.ThreadId.{ThreadId}
-use Rattle.task_isa.specs.declared.program.Program.{Program}
-use Rattle.prog_check.specs.Accepted.{IsAccepted}
-use Rattle.priority_sched.specs.Order.{priority_of, better, next_among, IsHighest}
+use Rattle.priority_sched.proofs.Common.{◌≡◌, ℕ, zero, suc, ◌<◌, ◌≤◌, length, Option, Some, None, arith, sym, inl, inr, subst, lt-ltb, le-ltb, cases_lt, cases_eq, ThreadId, Program, IsAccepted, priority_of, better, next_among, IsHighest}
 
 -- the numbers below one more: those below it, and it
 last_or_below : (P : ℕ → Type 0) (t : ℕ) → ((u : ℕ) → u < t → P u) → P t → (u : ℕ) → u < suc t → P u

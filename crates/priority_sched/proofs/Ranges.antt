@@ -1,30 +1,5 @@
 -- The ranges of a scan's registers and of the words that it finds.
-use Rattle.std.proofs.Common.{◌≡◌, ℕ, ◌+◌, ◌*◌, ◌^◌, ◌<◌, ◌≤◌, length, Option, Some, None, arith, refl, ap, ◌∙◌, slice_index}
-use Rattle.std.specs.Option.{ForSome}
-use Rattle.ink_base.specs.declared.ids.TaskId.{TaskId}
-use Rattle.ink_base.specs.declared.event.Event.{Event}
-use Rattle.task_isa.specs.declared.program.Program.{Program}
-use Rattle.fram_words.specs.Places.{Memory, Ring, answer}
-use Rattle.fram_words.specs.Held.{next_word, due_word}
-use Rattle.event_pipe.specs.Ring.{ring_index}
-use Rattle.thread_state.specs.Pages.{place_in}
-use Rattle.prog_check.specs.Lookup.{pipe_def}
-use Rattle.never_cut.specs.declared.model.Model.{Model}
-use Rattle.never_cut.specs.State.{thread_of, queue_of, pipe_of, timer_of}
-use Rattle.never_cut.specs.Entries.{Readings, IsCalm}
-use Rattle.push_core.specs.Queue.{published}
-use Rattle.never_cut.specs.Sound.{IsSound, IsSoundPipe}
-use Rattle.never_cut.specs.Within.{Lasts}
-use Rattle.never_cut.specs.kept.Steps.{Background}
-use Rattle.never_cut.proofs.Blocks.{running_word}
-use Rattle.priority_sched.specs.declared.chain.Chain.{Chain}
-use Rattle.priority_sched.specs.declared.idle.Waiting.{Waiting}
-use Rattle.priority_sched.specs.declared.scan_at.ScanAt.{ScanAt}
-use Rattle.priority_sched.specs.declared.scan_at.ScanAt.TheVariants.{Clock, Commit, Running, Finished, Origin, Value, First, Slot, Taken, Writer, Written, Item, Timer, Picked, Quiet}
-use Rattle.priority_sched.specs.declared.machine.ScanMachine.{ScanMachine}
-use Rattle.priority_sched.specs.Scan.{scan_wants, writer_of, IsScanWord, IsScanRow, IsWaiting}
-use Rattle.priority_sched.specs.Knows.{KnowsChain, HasOrigin, KnowsWaiting, KnowsTimer, ScanKnows, ScanHolds}
-use Rattle.priority_sched.specs.Laws.{IsInRange}
+use Rattle.priority_sched.proofs.Common.{◌≡◌, ℕ, ◌+◌, ◌*◌, ◌^◌, ◌<◌, ◌≤◌, length, Option, Some, None, arith, refl, ap, ◌∙◌, slice_index, ForSome, TaskId, Event, Program, Memory, Ring, answer, next_word, due_word, ring_index, place_in, pipe_def, Model, thread_of, queue_of, pipe_of, timer_of, Readings, IsCalm, published, IsSound, IsSoundPipe, Lasts, Background, running_word, Chain, Waiting, ScanAt, Clock, Commit, Running, Finished, Origin, Value, First, Slot, Taken, Writer, Written, Item, Timer, Picked, Quiet, ScanMachine, scan_wants, writer_of, IsScanWord, IsScanRow, IsWaiting, KnowsChain, HasOrigin, KnowsWaiting, KnowsTimer, ScanKnows, ScanHolds, IsInRange}
 use Rattle.fram_words.specs.Header as header
 use Rattle.priority_sched.proofs.Scans.{calm_word}
 use Rattle.priority_sched.proofs.Chains.{sound_chain, event_served, served_bits, value_word}

@@ -1,9 +1,5 @@
 -- No word of a pipe's ring stands at or behind address 2 ^ 32.
-use Rattle.std.proofs.Common.{◌≡◌, ℕ, ◌+◌, ◌-◌, ◌^◌, ◌<◌, ◌≤◌, length, arith, slice_index}
-use Rattle.task_isa.specs.declared.program.Program.{Program}
-use Rattle.fram_words.specs.Places.{Ring}
-use Rattle.prog_check.specs.Lookup.{pipe_def}
-use Rattle.prog_check.specs.Accepted.{IsAccepted}
+use Rattle.priority_sched.proofs.Common.{◌≡◌, ℕ, ◌+◌, ◌-◌, ◌^◌, ◌<◌, ◌≤◌, length, arith, slice_index, Program, Ring, pipe_def, IsAccepted}
 use Rattle.fram_words.specs.declared.layout.Layout.{Layout}
 use Rattle.fram_words.specs.Shape.{address}
 use Rattle.ink_layout.specs.Shape.{shape_of, words_of}

@@ -1,29 +1,5 @@
 -- The accesses of a scan.
-use Rattle.std.proofs.Common.{◌≡◌, ℕ, ◌+◌, ◌*◌, ◌<◌, [], length, Option, Some, None, arith, refl, ap, ◌∙◌, sym}
-use Rattle.ink_base.specs.declared.ids.ThreadId.{ThreadId}
-use Rattle.ink_base.specs.declared.ids.TaskId.{TaskId}
-use Rattle.task_isa.specs.declared.program.Program.{Program}
-use Rattle.fram_words.specs.Places.{Memory, Load}
-use Rattle.event_pipe.specs.Ring.{ring_index}
-use Rattle.thread_state.specs.Pages.{place_in}
-use Rattle.prog_check.specs.Lookup.{pipe_def}
-use Rattle.never_cut.specs.declared.model.Model.{Model}
-use Rattle.never_cut.specs.declared.scan_model.ScanModel.{ScanModel}
-use Rattle.never_cut.specs.State.{thread_of}
-use Rattle.never_cut.specs.Entries.{Readings, IsCalm}
-use Rattle.never_cut.specs.Stands.{flag}
-use Rattle.never_cut.specs.kept.Steps.{Background, IsKept}
-use Rattle.never_cut.specs.Within.{Lasts}
-use Rattle.never_cut.proofs.Scans.{with_scan, scan_private, scan_queues}
-use Rattle.never_cut.proofs.Blocks.{running_word, finished_word}
-use Rattle.priority_sched.specs.declared.scan_at.ScanAt.{ScanAt}
-use Rattle.priority_sched.specs.declared.scan_at.ScanAt.TheVariants.{Clock, Commit, Running, Finished, Origin, Value, First, Slot, Taken, Writer, Written, Item, Timer, Picked, Quiet}
-use Rattle.priority_sched.specs.declared.machine.ScanMachine.{ScanMachine}
-use Rattle.priority_sched.specs.Order.{priority_of}
-use Rattle.priority_sched.specs.Scan.{scan_at, scan_begun, after_finished, writer_of}
-use Rattle.priority_sched.specs.Knows.{ScanHolds, ScanStep}
-use Rattle.fram_words.proofs.ReadBack.{running_of-next_word}
-use Rattle.fram_words.specs.Held.{running_of}
+use Rattle.priority_sched.proofs.Common.{◌≡◌, ℕ, ◌+◌, ◌*◌, ◌<◌, [], length, Option, Some, None, arith, refl, ap, ◌∙◌, sym, ThreadId, TaskId, Program, Memory, Load, ring_index, place_in, pipe_def, Model, ScanModel, thread_of, Readings, IsCalm, flag, Background, IsKept, Lasts, with_scan, scan_private, scan_queues, running_word, finished_word, ScanAt, Clock, Commit, Running, Finished, Origin, Value, First, Slot, Taken, Writer, Written, Item, Timer, Picked, Quiet, ScanMachine, priority_of, scan_at, scan_begun, after_finished, writer_of, ScanHolds, ScanStep, running_of-next_word, running_of}
 use Rattle.fram_words.specs.Places as places
 use Rattle.fram_words.specs.Header as header
 use Rattle.priority_sched.proofs.Nexts.{goes_on}

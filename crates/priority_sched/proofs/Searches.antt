@@ -1,7 +1,5 @@
 -- What a search for the first number that meets a test tells.
-use Rattle.std.proofs.Common.{◌≡◌, ℕ, zero, suc, ◌+◌, ◌-◌, ◌<◌, ◌≤◌, Bool, true, false, Option, Some, None, arith, refl, sym, ap, ◌∙◌, inl, inr, subst, if◌then◌else◌}
-use Rattle.std.proofs.lemmas.Bool.{cases_eq, cases_lt}
-use Rattle.never_cut.specs.Pending.{first_number}
+use Rattle.priority_sched.proofs.Common.{◌≡◌, ℕ, zero, suc, ◌+◌, ◌-◌, ◌<◌, ◌≤◌, Bool, true, false, Option, Some, None, arith, refl, sym, ap, ◌∙◌, inl, inr, subst, if◌then◌else◌, cases_eq, cases_lt, first_number}
 use Rattle.never_cut.proofs.Firsts.{first_number_skips, first_number_finds}
 
 -- the number meets the test and none before it does; or none does

@@ -1,25 +1,5 @@
 -- The access that looks whether a timer is due.
-use Rattle.std.proofs.Common.{◌≡◌, ℕ, ◌+◌, ◌-◌, ◌*◌, ◌<◌, true, false, length, Option, Some, None, arith, refl, ap, ◌∙◌, sym, inl, inr, subst, ◌&&◌, Bool, nat_le, lt-ltb, eqb-true}
-use Rattle.std.proofs.lemmas.Bool.{cases_eq, cases_Bool}
-use Rattle.ink_base.specs.declared.ids.ThreadId.{ThreadId}
-use Rattle.task_isa.specs.declared.program.Program.{Program}
-use Rattle.fram_words.specs.Places.{Memory}
-use Rattle.fram_words.specs.Held.{due_word}
-use Rattle.thread_state.specs.Pages.{place_in}
-use Rattle.prog_check.specs.Accepted.{IsAccepted}
-use Rattle.prog_check.specs.Lookup.{timer_def}
-use Rattle.never_cut.specs.declared.model.Model.{Model}
-use Rattle.never_cut.specs.State.{timer_of}
-use Rattle.never_cut.specs.Pending.{first_number, pending, has_item, has_due, is_due_by, due_event, timer_event}
-use Rattle.never_cut.specs.Entries.{Readings, IsCalm}
-use Rattle.never_cut.specs.Stands.{StandsPrivate}
-use Rattle.never_cut.specs.kept.Steps.{Background}
-use Rattle.never_cut.proofs.Picks.{pending-later}
-use Rattle.priority_sched.specs.declared.idle.Idle.{Idle}
-use Rattle.priority_sched.specs.declared.scan_at.ScanAt.TheVariants.{Timer, Picked}
-use Rattle.priority_sched.specs.Picks.{timer_pick}
-use Rattle.priority_sched.specs.Scan.{scan_at, after_timer, is_owner}
-use Rattle.priority_sched.specs.Knows.{KnowsIdle, KnowsTimer, AreOffBelow, ScanHolds}
+use Rattle.priority_sched.proofs.Common.{◌≡◌, ℕ, ◌+◌, ◌-◌, ◌*◌, ◌<◌, true, false, length, Option, Some, None, arith, refl, ap, ◌∙◌, sym, inl, inr, subst, ◌&&◌, Bool, nat_le, lt-ltb, eqb-true, cases_eq, cases_Bool, ThreadId, Program, Memory, due_word, place_in, IsAccepted, timer_def, Model, timer_of, first_number, pending, has_item, has_due, is_due_by, due_event, timer_event, Readings, IsCalm, StandsPrivate, Background, pending-later, Idle, Timer, Picked, timer_pick, scan_at, after_timer, is_owner, KnowsIdle, KnowsTimer, AreOffBelow, ScanHolds}
 use Rattle.ink_base.specs.declared.ids.TimerId.{TimerId}
 use Rattle.fram_words.specs.Header as header
 use Rattle.persist_timer.specs.Due.{is_due}

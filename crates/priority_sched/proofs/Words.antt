@@ -1,11 +1,5 @@
 -- The words that a scan loads, by the state that they stand for.
-use Rattle.std.proofs.Common.{◌≡◌, ℕ, ◌+◌, ◌%◌, ◌<◌, length, arith, subst, slice_index}
-use Rattle.task_isa.specs.declared.program.Program.{Program}
-use Rattle.fram_words.specs.Places.{Memory, Ring}
-use Rattle.prog_check.specs.Lookup.{pipe_def}
-use Rattle.never_cut.specs.declared.model.Model.{Model}
-use Rattle.never_cut.specs.State.{pipe_of}
-use Rattle.never_cut.specs.Stands.{StandsPrivate}
+use Rattle.priority_sched.proofs.Common.{◌≡◌, ℕ, ◌+◌, ◌%◌, ◌<◌, length, arith, subst, slice_index, Program, Memory, Ring, pipe_def, Model, pipe_of, StandsPrivate}
 pub use Rattle.never_cut.proofs.Blocks.{first_word, event_words, taken_count, written_count, timer_count}
 
 -- the first item of a pipe

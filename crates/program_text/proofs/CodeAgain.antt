@@ -1,19 +1,8 @@
 -- The line of each instruction is read as it.
-use Rattle.std.proofs.Common.{◌≡◌, ℕ, ◌<◌, length, Some, None, Ok, sym, ap, ◌∙◌, arith}
-use Rattle.ink_base.specs.declared.ids.ThreadId.{ThreadId}
-use Rattle.task_isa.specs.Code.{IsInstr}
-use Rattle.task_isa.specs.Lookup.{task_def}
-use Rattle.task_isa.specs.declared.instr.Instr.{Instr}
-use Rattle.task_isa.specs.declared.instr.Instr.TheVariants.{Li, Mov, Add, Sub, Mul, And, Or, Xor, Shl, Shr, Divu, Remu, Ltu, Eq, Jmp, Jz, Jnz, Ev, Kind, Num, Now, Ld, St, Out, Send, Arm, Stop, Next, Done}
-use Rattle.task_isa.specs.declared.program.Task.{Task}
-use Rattle.task_isa.specs.declared.program.Program.{Program}
-use Rattle.prog_check.specs.Accepted.{IsRightInstr}
-use Rattle.task_lines.specs.declared.draft.DraftTask.{DraftTask}
-use Rattle.task_lines.specs.declared.draft.Draft.{Draft}
+use Rattle.program_text.proofs.Common.{◌≡◌, ℕ, ◌<◌, length, Some, None, Ok, sym, ap, ◌∙◌, arith, ThreadId, IsInstr, task_def, Instr, Li, Mov, Add, Sub, Mul, And, Or, Xor, Shl, Shr, Divu, Remu, Ltu, Eq, Jmp, Jz, Jnz, Ev, Kind, Num, Now, Ld, St, Out, Send, Arm, Stop, Next, Done, Task, Program, IsRightInstr, DraftTask, Draft, line_in}
 use Rattle.task_lines.specs.declared.op.OneOp.TheVariants as ones
 use Rattle.task_lines.specs.declared.op.TwoOp.TheVariants as twos
 use Rattle.task_lines.specs.declared.op.ThreeOp.TheVariants as threes
-use Rattle.task_lines.specs.Task.{line_in}
 use Rattle.program_text.proofs.Spelled.{instr_words}
 use Rattle.program_text.proofs.InstrsAgain.{draft_of, CanCode, with_instr, line_from, one_again, two_again, three_again, li_again, jmp_again, jz_again, jnz_again, next_again, done_again, send_again, arm_again, stop_again}
 use Rattle.program_text.proofs.OpsAgain.{ev_is, kind_is, num_is, now_is, out_is, mov_is, ld_is, st_is, add_is, sub_is, mul_is, and_is, or_is, xor_is, shl_is, shr_is, divu_is, remu_is, ltu_is, eq_is, jmp_is, jz_is, jnz_is, send_is, arm_is, stop_is, li_is, next_is, done_is}

@@ -1,14 +1,8 @@
 -- What notes carry.
-use Rattle.std.proofs.Common.{◌≡◌, ℕ, ◌<◌, ◌≤◌, max, List, length, slice_index, sym, ap, ◌∙◌, subst, arith}
+use Rattle.queue_rows.proofs.Common.{◌≡◌, ℕ, ◌<◌, ◌≤◌, max, List, length, slice_index, sym, ap, ◌∙◌, subst, arith, QueueSet, SourceSeat, KernelSeat, released_of, queue_of, calls_of, gone_of, raised, tabulated, both_told, kernel_told, source_told, view, kernel_view, Noted, HearsAsSource, HearsAsKernel}
 use Rattle.event_queue.specs.declared.view.Told.{Told}
 use Rattle.event_queue.specs.declared.view.View.{View}
-use Rattle.event_queue.specs.declared.set.QueueSet.{QueueSet}
 use Rattle.event_queue.specs.declared.seat.Note.{Note}
-use Rattle.event_queue.specs.declared.seat.SourceSeat.{SourceSeat}
-use Rattle.event_queue.specs.declared.seat.KernelSeat.{KernelSeat}
-use Rattle.event_queue.specs.Calls.{released_of}
-use Rattle.event_queue.specs.Views.{queue_of, calls_of, gone_of, raised, tabulated, both_told, kernel_told, source_told}
-use Rattle.event_queue.specs.Seats.{view, kernel_view, Noted, HearsAsSource, HearsAsKernel}
 use Rattle.event_queue.proofs.Joins.{greater_left, greater_right, tabulated_at, raised_at}
 
 -- a source that hears a note of the kernel knows the kernel's releases

@@ -1,2 +1,3 @@
+mod Common
 pub mod Queues
 pub mod Carries

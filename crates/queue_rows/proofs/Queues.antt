@@ -1,22 +1,14 @@
 -- A board with one queue.
-use Rattle.std.proofs.Common.{◌≡◌, ℕ, zero, suc, ◌+◌, ◌<◌, ◌≤◌, List, [], ◌∷◌, ◌++◌, map, length, length-append, get_or, take, drop, slice_index, refl, sym, ap, ◌∙◌, subst, arith}
+use Rattle.queue_rows.proofs.Common.{◌≡◌, ℕ, zero, suc, ◌+◌, ◌<◌, ◌≤◌, List, [], ◌∷◌, ◌++◌, map, length, length-append, get_or, take, drop, slice_index, refl, sym, ap, ◌∙◌, subst, arith, All, QueueSet, SourceSeat, KernelSeat, released_of, places_of, queue_of, lay_of, view, kernel_view, ring_of, IsOfShape, AreNewSources, IsNewKernel, firsts, IsOneQueue, IsNew, IsAt}
 use mathlib.Core.Option.{some}
 use lib.ListN.{get_elem?}
 use Rattle.std.proofs.lemmas.List.{length-map, map-append}
-use Rattle.std.specs.Prelude.{All}
 use Rattle.ink_base.specs.declared.ids.ThreadId.{ThreadId}
 use Rattle.event_queue.specs.declared.view.Shape.{Shape}
 use Rattle.event_queue.specs.declared.view.Lay.{Lay}
-use Rattle.event_queue.specs.declared.set.QueueSet.{QueueSet}
-use Rattle.event_queue.specs.declared.seat.SourceSeat.{SourceSeat}
-use Rattle.event_queue.specs.declared.seat.KernelSeat.{KernelSeat}
-use Rattle.event_queue.specs.Calls.{released_of}
-use Rattle.event_queue.specs.Views.{places_of, queue_of, lay_of}
 use Rattle.event_queue.specs.Rule.{IsLay}
-use Rattle.event_queue.specs.Seats.{view, kernel_view, ring_of, IsOfShape, AreNewSources, IsNewKernel}
 use Rattle.event_queue.proofs.Basics.{at_get, same_element}
 use Rattle.atomic_table.proofs.Lists.{at_last}
-use Rattle.queue_rows.specs.Rounds.{firsts, IsOneQueue, IsNew, IsAt}
 
 zeros : (n i : ℕ) → slice_index (map (λ (x : ThreadId). x.0) (firsts n)) i ≡ 0
 zeros zero i = refl

@@ -1,29 +1,5 @@
 -- The accesses of a boot.
-use Rattle.std.proofs.Common.{◌≡◌, ◌≢◌, ℕ, ◌+◌, ◌%◌, ◌<◌, ◌≤◌, Bool, true, false, List, [], ◌∷◌, length, Option, Some, None, arith, refl, ap, ◌∙◌, sym, inl, inr, subst, suc, max, ◌==◌, nat_lt, eqb-true, eq-eqb, ne_eqb, ltb-true, ltb-false}
-use Rattle.std.proofs.lemmas.Bool.{cases_Bool, cases_eq, eqb-false}
-use Rattle.ink_base.specs.declared.event.Event.{Event}
-use Rattle.task_isa.specs.declared.program.Program.{Program}
-use Rattle.fram_words.specs.Places.{Memory, Load, store}
-use Rattle.thread_state.specs.Pages.{committed, place_in}
-use Rattle.push_core.specs.Slots.{slot_in, empty_word}
-use Rattle.prog_check.specs.Lookup.{thread_def}
-use Rattle.never_cut.specs.declared.model.Model.{Model}
-use Rattle.never_cut.specs.declared.thread_model.ThreadModel.{ThreadModel}
-use Rattle.never_cut.specs.State.{thread_of}
-use Rattle.never_cut.specs.Entries.{Readings}
-use Rattle.never_cut.specs.Stands.{flag, StandsPrivate}
-use Rattle.push_core.specs.Queue.{event_at, event_slot}
-use Rattle.never_cut.specs.Sound.{IsQueued}
-use Rattle.never_cut.specs.kept.Actors.{IsFirstHeld, StandsForKernel}
-use Rattle.never_cut.specs.kept.Steps.{Background, IsKept}
-use Rattle.never_cut.proofs.Privates.{private_stays, ack_blocks}
-use Rattle.never_cut.proofs.Slots.{readable, first_slot, old_slot, ShowsOther}
-use Rattle.never_cut.proofs.Blocks.{finished_word}
-use Rattle.reboot.specs.declared.boot_at.BootAt.{BootAt}
-use Rattle.reboot.specs.declared.boot_at.BootAt.TheVariants.{Commit, Stamp, Finished, Slot, Ack, Empty, Over}
-use Rattle.reboot.specs.declared.machine.BootMachine.{BootMachine}
-use Rattle.reboot.specs.Boot.{boot_at, boot_begun, boot_next, after_slot}
-use Rattle.reboot.specs.Knows.{finished_events, last_stamp, greatest, IsCounted, BootHolds, BootStep}
+use Rattle.reboot.proofs.Common.{◌≡◌, ◌≢◌, ℕ, ◌+◌, ◌%◌, ◌<◌, ◌≤◌, Bool, true, false, List, [], ◌∷◌, length, Option, Some, None, arith, refl, ap, ◌∙◌, sym, inl, inr, subst, suc, max, ◌==◌, nat_lt, eqb-true, eq-eqb, ne_eqb, ltb-true, ltb-false, cases_Bool, cases_eq, eqb-false, Event, Program, Memory, Load, store, committed, place_in, slot_in, empty_word, thread_def, Model, ThreadModel, thread_of, Readings, flag, StandsPrivate, event_at, event_slot, IsQueued, IsFirstHeld, StandsForKernel, Background, IsKept, private_stays, ack_blocks, readable, first_slot, old_slot, ShowsOther, finished_word, BootAt, Commit, Stamp, Finished, Slot, Ack, Empty, Over, BootMachine, boot_at, boot_begun, boot_next, after_slot, finished_events, last_stamp, greatest, IsCounted, BootHolds, BootStep}
 use Rattle.ink_base.specs.declared.ids.ThreadId.{ThreadId}
 use Rattle.ink_base.specs.declared.ids.SourceId.{SourceId}
 use Rattle.ink_base.specs.declared.event.Origin.{Origin}

@@ -1,15 +1,6 @@
 -- What a boot knows outlasts the accesses of the other actors.
-use Rattle.std.proofs.Common.{◌≡◌, ℕ, ◌+◌, sym, ap, ◌∙◌}
-use Rattle.task_isa.specs.declared.program.Program.{Program}
-use Rattle.fram_words.specs.Places.{Memory, Commit, Ack}
-use Rattle.never_cut.specs.declared.model.Model.{Model}
-use Rattle.never_cut.specs.declared.thread_model.ThreadModel.{ThreadModel}
-use Rattle.never_cut.specs.Stands.{flag}
-use Rattle.never_cut.specs.kept.Actors.{SamePrivate, Follows}
-use Rattle.never_cut.proofs.Privates.{committed-same}
-use Rattle.reboot.specs.declared.boot_at.BootAt.{BootAt}
-use Rattle.reboot.specs.declared.machine.BootMachine.{BootMachine}
-use Rattle.reboot.specs.Knows.{finished_events, greatest, shown, IsCounted, KnowsEvent, BootKnows, BootHolds}
+use Rattle.reboot.proofs.Common.{◌≡◌, ℕ, ◌+◌, sym, ap, ◌∙◌, Program, Memory, Model, ThreadModel, flag, SamePrivate, Follows, committed-same, BootAt, BootMachine, finished_events, greatest, shown, IsCounted, KnowsEvent, BootKnows, BootHolds}
+use Rattle.fram_words.specs.Places.{Commit, Ack}
 use Rattle.never_cut.proofs.Follows.{follow_finished, follow_released, follow_finishing}
 use Rattle.reboot.specs.declared.boot_at.BootAt.TheVariants as rows
 

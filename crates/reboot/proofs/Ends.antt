@@ -1,18 +1,5 @@
 -- What is known at the end of a boot.
-use Rattle.std.proofs.Common.{◌≡◌, ℕ, ◌+◌, ◌<◌, ◌≤◌, false, length, Some, arith, ◌∙◌, sym, inl, inr}
-use Rattle.task_isa.specs.declared.program.Program.{Program}
-use Rattle.fram_words.specs.Places.{Memory}
-use Rattle.thread_state.specs.Pages.{committed}
-use Rattle.never_cut.specs.declared.model.Model.{Model}
-use Rattle.never_cut.specs.State.{thread_of}
-use Rattle.never_cut.specs.Entries.{Readings, IsCalm}
-use Rattle.never_cut.specs.Stands.{StandsPrivate}
-use Rattle.never_cut.specs.kept.Steps.{Background}
-use Rattle.reboot.specs.declared.boot_at.BootAt.{BootAt}
-use Rattle.reboot.specs.declared.boot_at.BootAt.TheVariants.{Commit, Stamp, Finished, Slot, Ack, Empty, Over}
-use Rattle.reboot.specs.declared.machine.BootMachine.{BootMachine}
-use Rattle.reboot.specs.Boot.{boot_at, stamp_at, boot_stamp}
-use Rattle.reboot.specs.Knows.{IsCounted, BootHolds}
+use Rattle.reboot.proofs.Common.{◌≡◌, ℕ, ◌+◌, ◌<◌, ◌≤◌, false, length, Some, arith, ◌∙◌, sym, inl, inr, Program, Memory, committed, Model, thread_of, Readings, IsCalm, StandsPrivate, Background, BootAt, Commit, Stamp, Finished, Slot, Ack, Empty, Over, BootMachine, boot_at, stamp_at, boot_stamp, IsCounted, BootHolds}
 use Rattle.std.proofs.lemmas.Option.{same_Some}
 use Rattle.fram_words.specs.Header as header
 use Rattle.reboot.proofs.Boots.{up_to}

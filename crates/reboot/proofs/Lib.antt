@@ -1,3 +1,4 @@
+mod Common
 pub mod Boots
 pub mod Drifts
 pub mod Ends

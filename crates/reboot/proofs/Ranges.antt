@@ -1,28 +1,5 @@
 -- The registers of a boot, and the words that it finds, lie in their ranges.
-use Rattle.std.proofs.Common.{◌≡◌, ℕ, ◌+◌, ◌-◌, ◌%◌, ◌^◌, ◌<◌, ◌≤◌, Bool, true, false, length, arith, ap, ◌∙◌, sym, inl, inr, subst}
-use Rattle.std.proofs.lemmas.Bool.{cases_Bool, cases_lt}
-use Rattle.ink_base.specs.declared.event.Event.{Event}
-use Rattle.task_isa.specs.declared.program.Program.{Program}
-use Rattle.fram_words.specs.Places.{Memory, answer}
-use Rattle.thread_state.specs.Pages.{place_in}
-use Rattle.push_core.specs.Slots.{slot_in}
-use Rattle.prog_check.specs.Lookup.{thread_def, source_thread}
-use Rattle.never_cut.specs.declared.model.Model.{Model}
-use Rattle.never_cut.specs.declared.thread_model.ThreadModel.{ThreadModel}
-use Rattle.never_cut.specs.State.{thread_of, queue_of}
-use Rattle.never_cut.specs.Entries.{Readings}
-use Rattle.never_cut.specs.Stands.{flag}
-use Rattle.push_core.specs.Queue.{published, event_at}
-use Rattle.never_cut.specs.Sound.{IsQueued}
-use Rattle.never_cut.specs.kept.Actors.{IsFinishing}
-use Rattle.never_cut.specs.kept.Steps.{Background}
-use Rattle.never_cut.proofs.Slots.{IsReadable, readable, held_slot, free_slot}
-use Rattle.never_cut.proofs.Blocks.{finished_word}
-use Rattle.reboot.specs.declared.boot_at.BootAt.{BootAt}
-use Rattle.reboot.specs.declared.boot_at.BootAt.TheVariants.{Commit, Stamp, Finished, Slot, Ack, Empty, Over}
-use Rattle.reboot.specs.declared.machine.BootMachine.{BootMachine}
-use Rattle.reboot.specs.Boot.{boot_wants, IsBootRow, IsBootWord, IsOfSource}
-use Rattle.reboot.specs.Knows.{finished_events, BootKnows, BootHolds}
+use Rattle.reboot.proofs.Common.{◌≡◌, ℕ, ◌+◌, ◌-◌, ◌%◌, ◌^◌, ◌<◌, ◌≤◌, Bool, true, false, length, arith, ap, ◌∙◌, sym, inl, inr, subst, cases_Bool, cases_lt, Event, Program, Memory, answer, place_in, slot_in, thread_def, source_thread, Model, ThreadModel, thread_of, queue_of, Readings, flag, published, event_at, IsQueued, IsFinishing, Background, IsReadable, readable, held_slot, free_slot, finished_word, BootAt, Commit, Stamp, Finished, Slot, Ack, Empty, Over, BootMachine, boot_wants, IsBootRow, IsBootWord, IsOfSource, finished_events, BootKnows, BootHolds}
 use Rattle.std.proofs.Math.Nat.{add-mod_right}
 use Rattle.fram_words.specs.Header as header
 use Rattle.push_core.proofs.Events.{queued_numbers}

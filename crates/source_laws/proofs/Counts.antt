@@ -1,9 +1,5 @@
 -- The positions and the events of a queue fit their bits.
-use Rattle.std.proofs.Common.{ℕ, ◌+◌, ◌^◌, ◌<◌, length, arith}
-use Rattle.push_core.specs.Queue.{Queue, Source, published, event_at, FitsEvent}
-use Rattle.push_core.proofs.Events.{queued_fits}
-use Rattle.source_laws.specs.Model.{Board}
-use Rattle.source_laws.specs.Stands.{IsWithin, EventsKept}
+use Rattle.source_laws.proofs.Common.{ℕ, ◌+◌, ◌^◌, ◌<◌, length, arith, Queue, Source, published, event_at, FitsEvent, queued_fits, Board, IsWithin, EventsKept}
 
 -- positions fit their bits
 pub positions_fit : (board : Board) (queue : ℕ → Queue) (source : ℕ → Source) (t : ℕ) → IsWithin board → EventsKept board queue source t

@@ -1,13 +1,5 @@
 -- What a source knows stays true whatever the others do.
-use Rattle.std.proofs.Common.{◌≡◌, inl, inr, ℕ, zero, suc, ◌+◌, ◌%◌, ◌<◌, ◌≤◌, Bool, [], ◌∷◌, length, drop, sym, ap, ◌∙◌, subst, arith, length-append, length-drop, one-add, get_or-drop}
-use Rattle.std.proofs.lemmas.List.{get_or_append_left}
-use Rattle.push_core.specs.declared.stage.Stage.{Stage}
-use Rattle.push_core.specs.declared.stage.Stage.TheVariants.{LoadSlots, LoadAck, LoadSlot, Publish, MoveTail, HelpTail}
-use Rattle.ink_base.specs.declared.event.Event.{Event}
-use Rattle.push_core.specs.Queue.{Queue, published, event_at, no_event, IsNumber, IsFinishing, KeepsNumbers, with_event, without_first, with_finished}
-use Rattle.push_core.proofs.Events.{number_source, number_count, finishing_some, finishing_source, finishing_count}
-use Rattle.source_laws.specs.Model.{Near}
-use Rattle.source_laws.specs.kept.Knows.{KnowsAt, Boots, IsShown}
+use Rattle.source_laws.proofs.Common.{◌≡◌, inl, inr, ℕ, zero, suc, ◌+◌, ◌%◌, ◌<◌, ◌≤◌, Bool, [], ◌∷◌, length, drop, sym, ap, ◌∙◌, subst, arith, length-append, length-drop, one-add, get_or-drop, get_or_append_left, Stage, LoadSlots, LoadAck, LoadSlot, Publish, MoveTail, HelpTail, Event, Queue, published, event_at, no_event, IsNumber, IsFinishing, KeepsNumbers, with_event, without_first, with_finished, number_source, number_count, finishing_some, finishing_source, finishing_count, Near, KnowsAt, Boots, IsShown}
 use Rattle.source_laws.proofs.Numbers.{numbered_range, numbered_at, numbered_release_own}
 
 -- what a source sees after the others have changed TAIL, its ACK and its queue

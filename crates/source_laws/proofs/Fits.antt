@@ -1,14 +1,5 @@
 -- A source's row fits what its machine's contract asks, and so does the word that its access finds.
-use Rattle.std.proofs.Common.{inl, inr, ℕ, ◌/◌, ◌%◌, ◌^◌, ◌<◌, ◌≤◌, Bool, length, arith}
-use Rattle.push_core.specs.Table.{greatest_tail, IsPort, FitsStage, IsRowFor, IsAnswer, row_at}
-use Rattle.push_core.specs.declared.stage.Stage.{Stage}
-use Rattle.push_core.specs.declared.stage.Stage.TheVariants.{LoadSrc, LoadSlots, LoadAck, LoadTail, LoadSlot, Publish, MoveTail, HelpTail, StoreSkip, StoreAccepted}
-use Rattle.push_core.specs.Queue.{published}
-use Rattle.source_laws.specs.Model.{Board, Near}
-use Rattle.source_laws.specs.Rows.{port_of, found}
-use Rattle.source_laws.specs.kept.Knows.{KnowsAt, Boots}
-use Rattle.source_laws.specs.Stands.{State, IsWithin}
-use Rattle.source_laws.specs.kept.Kept.{Kept}
+use Rattle.source_laws.proofs.Common.{inl, inr, ℕ, ◌/◌, ◌%◌, ◌^◌, ◌<◌, ◌≤◌, Bool, length, arith, greatest_tail, IsPort, FitsStage, IsRowFor, IsAnswer, row_at, Stage, LoadSrc, LoadSlots, LoadAck, LoadTail, LoadSlot, Publish, MoveTail, HelpTail, StoreSkip, StoreAccepted, published, Board, Near, port_of, found, KnowsAt, Boots, State, IsWithin, Kept}
 use Rattle.source_laws.proofs.Sources.{stored_as}
 use Rattle.source_laws.proofs.Own.{Own}
 use Rattle.source_laws.proofs.Frames.{own_of}

@@ -1,16 +1,5 @@
 -- The parts of what is kept that a step leaves alone.
-use Rattle.std.proofs.Common.{◌≡◌, inl, inr, ℕ, ◌<◌, ◌≤◌, length, sym, ap, subst, arith}
-use Rattle.std.proofs.lemmas.Bool.{cases_eq}
-use Rattle.fram_words.specs.Changes.{Becomes}
-use Rattle.fram_words.specs.Places.{Tail, Ack, Src}
-use Rattle.push_core.specs.Queue.{Queue, Source, published, event_at, IsQueued, Stored}
-use Rattle.push_core.proofs.Queues.{queue_same}
-use Rattle.push_core.proofs.Unsettled.{unsettled_least}
-use Rattle.source_laws.specs.Model.{places_for, Board, SourceBecomes}
-use Rattle.push_core.specs.declared.row.Row.{Row}
-use Rattle.source_laws.specs.kept.Knows.{Knows}
-use Rattle.source_laws.specs.Stands.{State, near, QueueKept, slots_of, EventsKept, IsOrdered, IsWithin}
-use Rattle.source_laws.specs.kept.Kept.{Kept, SourcePart}
+use Rattle.source_laws.proofs.Common.{◌≡◌, inl, inr, ℕ, ◌<◌, ◌≤◌, length, sym, ap, subst, arith, cases_eq, Becomes, Tail, Ack, Src, Queue, Source, published, event_at, IsQueued, Stored, queue_same, unsettled_least, places_for, Board, SourceBecomes, Row, Knows, State, near, QueueKept, slots_of, EventsKept, IsOrdered, IsWithin, Kept, SourcePart}
 use Rattle.fram_words.specs.Places as places
 use Rattle.source_laws.proofs.Sources.{source_store}
 use Rattle.source_laws.proofs.Nears.{near_is, source_as}

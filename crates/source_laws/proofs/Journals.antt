@@ -1,9 +1,5 @@
 -- The readings that legal entries settle are the next one and those after it.
-use Rattle.std.proofs.Common.{◌≡◌, ◌⊎◌, inl, inr, ℕ, suc, ◌+◌, ◌-◌, ◌≤◌, ◌==◌, cond, Bool, List, [], ◌∷◌, ◌++◌, refl, sym, ap, ◌∙◌, subst, arith, eq-eqb, ne_eqb}
-use Rattle.std.proofs.lemmas.Bool.{cases_eq}
-use Rattle.fram_words.specs.Changes.{Becomes}
-use Rattle.push_core.specs.Queue.{Source}
-use Rattle.source_laws.specs.Model.{Board, Model, Entry, Push, Refuse, Skip, Finish, Release, Follows}
+use Rattle.source_laws.proofs.Common.{◌≡◌, ◌⊎◌, inl, inr, ℕ, suc, ◌+◌, ◌-◌, ◌≤◌, ◌==◌, cond, Bool, List, [], ◌∷◌, ◌++◌, refl, sym, ap, ◌∙◌, subst, arith, eq-eqb, ne_eqb, cases_eq, Becomes, Source, Board, Model, Entry, Push, Refuse, Skip, Finish, Release, Follows}
 use Rattle.std.specs.List.{range_with_len}
 use Rattle.source_laws.specs.Journals.{Leads, settled, settled_by}
 

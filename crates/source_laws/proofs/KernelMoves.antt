@@ -1,18 +1,5 @@
 -- The kernel's changes keep the invariant: an event is finished, acknowledged and released; and so does a cut.
-use Rattle.std.proofs.Common.{◌≡◌, ◌⊎◌, inl, inr, ℕ, suc, ◌+◌, ◌%◌, ◌<◌, ◌≤◌, length, drop, refl, sym, ap, ◌∙◌, subst, arith, length-drop, one-add, get_or-drop}
-use Rattle.std.proofs.lemmas.Bool.{cases_eq}
-use Rattle.push_core.specs.Table.{first_row, greatest_tail}
-use Rattle.push_core.specs.declared.row.Row.{Row}
-use Rattle.fram_words.specs.Changes.{Becomes}
-use Rattle.push_core.specs.Slots.{empty_word}
-use Rattle.push_core.specs.Queue.{Queue, Source, published, event_at, no_event, IsQueued, unsettled_into, IsFinishing, without_first, with_finished}
-use Rattle.push_core.proofs.Events.{queued_numbers, finishing_some, finishing_source}
-use Rattle.push_core.proofs.Queues.{queue_same, queue_finish, queue_release}
-use Rattle.push_core.proofs.Unsettled.{unsettled_least}
-use Rattle.fram_words.specs.Places.{Place, Tail, Ack, Src, IsShared}
-use Rattle.source_laws.specs.Model.{places_for, Board, Model, QueueBecomes}
-use Rattle.source_laws.specs.Stands.{State, near, QueueKept, EventsKept, IsWithin}
-use Rattle.source_laws.specs.kept.Kept.{Kept, SourceKept}
+use Rattle.source_laws.proofs.Common.{◌≡◌, ◌⊎◌, inl, inr, ℕ, suc, ◌+◌, ◌%◌, ◌<◌, ◌≤◌, length, drop, refl, sym, ap, ◌∙◌, subst, arith, length-drop, one-add, get_or-drop, cases_eq, first_row, greatest_tail, Row, Becomes, empty_word, Queue, Source, published, event_at, no_event, IsQueued, unsettled_into, IsFinishing, without_first, with_finished, queued_numbers, finishing_some, finishing_source, queue_same, queue_finish, queue_release, unsettled_least, Place, Tail, Ack, Src, IsShared, places_for, Board, Model, QueueBecomes, State, near, QueueKept, EventsKept, IsWithin, Kept, SourceKept}
 use Rattle.fram_words.specs.Places as places
 use Rattle.source_laws.proofs.Nears.{near_is, source_as, other_finish, own_acked, any_release}
 use Rattle.source_laws.proofs.Frames.{queue_part, events_part, slots_become}

@@ -1,14 +1,5 @@
 -- The part of a source through the steps of the others.
-use Rattle.std.proofs.Common.{◌≡◌, inl, inr, ℕ, ◌+◌, ◌%◌, ◌≤◌, length, sym, ◌∙◌, subst}
-use Rattle.std.proofs.lemmas.Bool.{cases_eq}
-use Rattle.push_core.specs.declared.row.Row.{Row}
-use Rattle.fram_words.specs.Places.{Tail, Ack, Src}
-use Rattle.ink_base.specs.declared.event.Event.{Event}
-use Rattle.push_core.specs.Queue.{Queue, Source, event_source, IsFinishing, KeepsNumbers, with_event, without_first, with_finished}
-use Rattle.push_core.proofs.Events.{finishing_some, finishing_source}
-use Rattle.source_laws.specs.Model.{Board, Near}
-use Rattle.source_laws.specs.Stands.{State, near}
-use Rattle.source_laws.specs.kept.Kept.{SourceKept}
+use Rattle.source_laws.proofs.Common.{◌≡◌, inl, inr, ℕ, ◌+◌, ◌%◌, ◌≤◌, length, sym, ◌∙◌, subst, cases_eq, Row, Tail, Ack, Src, Event, Queue, Source, event_source, IsFinishing, KeepsNumbers, with_event, without_first, with_finished, finishing_some, finishing_source, Board, Near, State, near, SourceKept}
 use Rattle.source_laws.proofs.Sources.{source_push_other, source_finish, source_ack, source_release_own, source_release_other}
 use Rattle.source_laws.proofs.Drifts.{changed, Drifts, knows_drift, drift_tail, drift_push, drift_finish, drift_ack, drift_release}
 

@@ -1,16 +1,5 @@
 -- What a source knows after each of its own accesses.
-use Rattle.std.proofs.Common.{◌≡◌, ◌⊎◌, inl, inr, ℕ, ◌+◌, ◌/◌, ◌%◌, ◌^◌, ◌<◌, ◌≤◌, ◌==◌, ◌&&◌, ◌||◌, cond, nat_lt, Bool, true, false, length, refl, sym, ap, ◌∙◌, subst, arith, Some, None, Option, mod-lt, eqb-true, eq-eqb, ne_eqb, ltb-true, ltb-false, lt-ltb, true≢false}
-use Rattle.std.proofs.lemmas.Bool.{cases_lt, cases_eq, or_cases, or_left, or_right, and_parts, and_from, false≢true}
-use Rattle.push_core.specs.Slots.{empty_word, slot_in}
-use Rattle.push_core.specs.Queue.{Queue, published, event_at, event_source, event_count, event_word, event_slot, IsNumber, FitsEvent, StandsQueue, KeepsNumbers}
-use Rattle.push_core.proofs.Events.{slot_in-event_word, event_word-≢-empty_word, number_source, number_count}
-use Rattle.push_core.proofs.Queues.{SlotIs, Holds, IsEmpty, slot_is}
-use Rattle.source_laws.specs.Model.{Near}
-use Rattle.push_core.specs.Table.{src_word, shows_own, after_boot_slot, after_ack, after_slot, is_full_at}
-use Rattle.push_core.specs.declared.stage.Stage.{Stage}
-use Rattle.push_core.specs.declared.stage.Stage.TheVariants.{LoadSlots, LoadAck, LoadTail, LoadSlot, Publish, HelpTail, StoreSkip, StoreAccepted}
-use Rattle.source_laws.specs.kept.Knows.{KnowsAt, Boots}
-use Rattle.source_laws.specs.Stands.{IsOrdered}
+use Rattle.source_laws.proofs.Common.{◌≡◌, ◌⊎◌, inl, inr, ℕ, ◌+◌, ◌/◌, ◌%◌, ◌^◌, ◌<◌, ◌≤◌, ◌==◌, ◌&&◌, ◌||◌, cond, nat_lt, Bool, true, false, length, refl, sym, ap, ◌∙◌, subst, arith, Some, None, Option, mod-lt, eqb-true, eq-eqb, ne_eqb, ltb-true, ltb-false, lt-ltb, true≢false, cases_lt, cases_eq, or_cases, or_left, or_right, and_parts, and_from, false≢true, empty_word, slot_in, Queue, published, event_at, event_source, event_count, event_word, event_slot, IsNumber, FitsEvent, StandsQueue, KeepsNumbers, slot_in-event_word, event_word-≢-empty_word, number_source, number_count, SlotIs, Holds, IsEmpty, slot_is, Near, src_word, shows_own, after_boot_slot, after_ack, after_slot, is_full_at, Stage, LoadSlots, LoadAck, LoadTail, LoadSlot, Publish, HelpTail, StoreSkip, StoreAccepted, KnowsAt, Boots, IsOrdered}
 use Rattle.ink_base.specs.declared.ids.SourceId.{SourceId}
 use Rattle.push_core.specs.declared.slot.Slot.{Slot}
 use Rattle.push_core.specs.declared.slot.Slot.TheVariants.{Empty, Full}

@@ -1,18 +1,9 @@
 -- The machine's table over addresses is the table over places.
-use Rattle.std.proofs.Common.{◌≡◌, ℕ, ◌+◌, ◌%◌, refl, ap, arith}
+use Rattle.source_laws.proofs.Common.{◌≡◌, ℕ, ◌+◌, ◌%◌, refl, ap, arith, access_of, Row, Stage, LoadSlots, LoadSlot, Publish, at_address, empty_word, event_word, places_for, Board, access, access_at, event_of, port_of}
 use Rattle.push_core.specs.Table as table
-use Rattle.push_core.specs.Table.{access_of}
-use Rattle.push_core.specs.declared.row.Row.{Row}
-use Rattle.push_core.specs.declared.stage.Stage.{Stage}
-use Rattle.push_core.specs.declared.stage.Stage.TheVariants.{LoadSlots, LoadSlot, Publish}
 use Rattle.fram_words.specs.declared.access.Access.TheVariants as fram
-use Rattle.fram_words.specs.Accesses.{at_address}
 use Rattle.fram_words.specs.Places as places
 use Rattle.fram_words.specs.Shape.{address}
-use Rattle.push_core.specs.Slots.{empty_word}
-use Rattle.push_core.specs.Queue.{event_word}
-use Rattle.source_laws.specs.Model.{places_for, Board}
-use Rattle.source_laws.specs.Rows.{access, access_at, event_of, port_of}
 
 slot_at : (board : Board) (t n : ℕ) → address board.shape (places.Slot t 0) + n ≡ address board.shape (places.Slot t n)
 unfolding address

@@ -1,13 +1,5 @@
 -- The invariant holds from any words that stand on, as the first image's, and the words then stand for the never-cut kernel.
-use Rattle.std.proofs.Common.{◌≡◌, ◌⊎◌, inl, inr, ℕ, zero, suc, ◌+◌, ◌/◌, ◌%◌, ◌^◌, ◌<◌, ◌≤◌, length, refl, sym, ap, ◌∙◌, subst, arith, mod-eq_of_lt}
-use Rattle.push_core.specs.Queue.{Queue, open_queue, published, event_at, StandsSource, KeepsNumbers}
-use Rattle.push_core.proofs.Events.{number_source, number_count}
-use Rattle.push_core.proofs.Queues.{queue_same}
-use Rattle.push_core.proofs.Unsettled.{unsettled_bound}
-use Rattle.source_laws.specs.Model.{Board, Near}
-use Rattle.source_laws.specs.Stands.{State, near, slots_of, IsOrdered, IsWithin}
-use Rattle.source_laws.specs.kept.Kept.{Kept}
-use Rattle.source_laws.specs.Steps.{IsFirst, IsStart, IsRun}
+use Rattle.source_laws.proofs.Common.{◌≡◌, ◌⊎◌, inl, inr, ℕ, zero, suc, ◌+◌, ◌/◌, ◌%◌, ◌^◌, ◌<◌, ◌≤◌, length, refl, sym, ap, ◌∙◌, subst, arith, mod-eq_of_lt, Queue, open_queue, published, event_at, StandsSource, KeepsNumbers, number_source, number_count, queue_same, unsettled_bound, Board, Near, State, near, slots_of, IsOrdered, IsWithin, Kept, IsFirst, IsStart, IsRun}
 use Rattle.fram_words.specs.Places as places
 use Rattle.source_laws.proofs.Sources.{stored_as, own_count, ack_behind, last_one}
 use Rattle.source_laws.proofs.Own.{Own}

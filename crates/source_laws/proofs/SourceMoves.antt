@@ -1,19 +1,5 @@
 -- A source's changes of a word keep the invariant: the tail moves, and an event is published.
-use Rattle.std.proofs.Common.{◌≡◌, inl, inr, ℕ, suc, ◌+◌, ◌%◌, ◌<◌, ◌≤◌, [], ◌∷◌, ◌++◌, length, refl, sym, ap, subst, arith, length-append}
-use Rattle.std.proofs.lemmas.Bool.{cases_eq, cases_lt}
-use Rattle.std.proofs.lemmas.List.{get_or_append_left, get_or_push}
-use Rattle.push_core.specs.Table.{src_word}
-use Rattle.push_core.specs.declared.row.Row.{Row}
-use Rattle.fram_words.specs.Changes.{Becomes}
-use Rattle.ink_base.specs.declared.event.Event.{Event}
-use Rattle.push_core.specs.Queue.{Queue, Source, published, event_at, no_event, next_event, event_word, IsQueued, StandsQueue, with_event, with_accepted}
-use Rattle.push_core.proofs.Queues.{queue_same, queue_push}
-use Rattle.push_core.proofs.Unsettled.{unsettled_one}
-use Rattle.fram_words.specs.Places.{Tail, Ack, Src}
-use Rattle.source_laws.specs.Model.{places_for, Board, Model, BothBecome}
-use Rattle.source_laws.specs.kept.Knows.{Knows}
-use Rattle.source_laws.specs.Stands.{State, near, slots_of, QueueKept, EventsKept, IsWithin}
-use Rattle.source_laws.specs.kept.Kept.{Kept, SourcePart}
+use Rattle.source_laws.proofs.Common.{◌≡◌, inl, inr, ℕ, suc, ◌+◌, ◌%◌, ◌<◌, ◌≤◌, [], ◌∷◌, ◌++◌, length, refl, sym, ap, subst, arith, length-append, cases_eq, cases_lt, get_or_append_left, get_or_push, src_word, Row, Becomes, Event, Queue, Source, published, event_at, no_event, next_event, event_word, IsQueued, StandsQueue, with_event, with_accepted, queue_same, queue_push, unsettled_one, Tail, Ack, Src, places_for, Board, Model, BothBecome, Knows, State, near, slots_of, QueueKept, EventsKept, IsWithin, Kept, SourcePart}
 use Rattle.fram_words.specs.Places as places
 use Rattle.source_laws.proofs.Sources.{source_push_own}
 use Rattle.source_laws.proofs.Nears.{near_is, source_as, other_tail, other_push}

@@ -1,10 +1,5 @@
 -- What a source's two words are after each step on it or on its queue, and what they tell.
-use Rattle.std.proofs.Common.{◌≡◌, ◌⊎◌, inl, inr, ℕ, ◌+◌, ◌/◌, ◌%◌, ◌^◌, ◌<◌, ◌≤◌, length, drop, refl, sym, ap, ◌∙◌, subst, arith}
-use Rattle.std.proofs.lemmas.Bool.{cases_lt}
-use Rattle.push_core.specs.Table.{src_word}
-use Rattle.ink_base.specs.declared.event.Event.{Event}
-use Rattle.push_core.specs.Queue.{Queue, Source, event_at, event_source, event_count, HoldsNumber, Numbered, IsFinishing, Stored, KeepsNumbers, with_event, without_first, with_finished, with_accepted}
-use Rattle.push_core.proofs.Events.{finishing_some, finishing_source, finishing_count, finishing_push}
+use Rattle.source_laws.proofs.Common.{◌≡◌, ◌⊎◌, inl, inr, ℕ, ◌+◌, ◌/◌, ◌%◌, ◌^◌, ◌<◌, ◌≤◌, length, drop, refl, sym, ap, ◌∙◌, subst, arith, cases_lt, src_word, Event, Queue, Source, event_at, event_source, event_count, HoldsNumber, Numbered, IsFinishing, Stored, KeepsNumbers, with_event, without_first, with_finished, with_accepted, finishing_some, finishing_source, finishing_count, finishing_push}
 use Rattle.source_laws.proofs.Numbers.{numbered_range, numbered_at, numbered_last, numbered_push_own, numbered_push_other, numbered_release_own, numbered_release_other}
 
 -- the two numbers of SRC

@@ -1,22 +1,5 @@
 -- Every step keeps the invariant, and the entries that it adds are legal.
-use Rattle.std.proofs.Common.{◌≡◌, inl, ℕ, ◌+◌, ◌<◌, ◌==◌, cond, Bool, true, false, [], ◌∷◌, length, refl, sym, ap, ◌∙◌, subst, arith, MatchBool, length-append, eqb-true, ltb-true}
-use Rattle.std.proofs.lemmas.Bool.{eqb-false}
-use Rattle.fram_words.specs.Changes.{Becomes}
-use Rattle.fram_words.specs.Accesses.{Makes}
-use Rattle.push_core.specs.Slots.{empty_word, slot_in}
-use Rattle.push_core.specs.Queue.{published, event_word, StandsQueue, next_event, with_refused, with_skipped}
-use Rattle.push_core.proofs.Queues.{queue_tail}
-use Rattle.fram_words.specs.Places.{Tail, Src}
-use Rattle.source_laws.specs.Model.{places_for, Board, Model}
-use Rattle.push_core.specs.declared.row.Row.{Row}
-use Rattle.push_core.specs.declared.stage.Stage.{Stage}
-use Rattle.push_core.specs.declared.stage.Stage.TheVariants.{LoadSrc, LoadSlots, LoadAck, LoadTail, LoadSlot, Publish, MoveTail, HelpTail, StoreSkip, StoreAccepted}
-use Rattle.push_core.specs.Table.{IsLeft, is_full_at, after_slot, row_at, src_word}
-use Rattle.source_laws.specs.Rows.{event_of, entry_of, access, take, entry, found, slot_place}
-use Rattle.source_laws.specs.kept.Knows.{Knows}
-use Rattle.source_laws.specs.Stands.{State, near, slots_of, IsWithin}
-use Rattle.source_laws.specs.kept.Kept.{Kept}
-use Rattle.source_laws.specs.Steps.{MayAdd, Adds, SourceStep, Step}
+use Rattle.source_laws.proofs.Common.{◌≡◌, inl, ℕ, ◌+◌, ◌<◌, ◌==◌, cond, Bool, true, false, [], ◌∷◌, length, refl, sym, ap, ◌∙◌, subst, arith, MatchBool, length-append, eqb-true, ltb-true, eqb-false, Becomes, Makes, empty_word, slot_in, published, event_word, StandsQueue, next_event, with_refused, with_skipped, queue_tail, Tail, Src, places_for, Board, Model, Row, Stage, LoadSrc, LoadSlots, LoadAck, LoadTail, LoadSlot, Publish, MoveTail, HelpTail, StoreSkip, StoreAccepted, IsLeft, is_full_at, after_slot, row_at, src_word, event_of, entry_of, access, take, entry, found, slot_place, Knows, State, near, slots_of, IsWithin, Kept, MayAdd, Adds, SourceStep, Step}
 use Rattle.push_core.specs.declared.point.Point.TheVariants as points
 use Rattle.source_laws.specs.Steps as steps
 use Rattle.source_laws.proofs.Own.{own_src, own_slots, own_ack, own_tail, own_slot, own_refuse, own_won, own_lost}

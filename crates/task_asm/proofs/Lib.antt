@@ -1,2 +1,3 @@
+mod Common
 pub mod Staying
 pub mod StayingTexts

@@ -1,10 +1,6 @@
 -- Each word is that of one instruction at most, and decoding finds it.
-use Rattle.std.proofs.Common.{◌≡◌, ◌≢◌, ℕ, ◌/◌, ◌%◌, ◌^◌, ◌<◌, ◌≤◌, arith, refl, ap, ◌∙◌, subst, inl, inr, Option, Some, None, IfSome, IfNone, ◌==◌, eqb-true, eq-eqb}
-use Rattle.std.proofs.lemmas.Bool.{cases_Bool}
-use Rattle.std.proofs.lemmas.List.{get_or_past}
-use Rattle.task_isa.specs.declared.instr.Instr.{Instr}
-use Rattle.task_isa.specs.declared.instr.Instr.TheVariants.{Li, Mov, Add, Sub, Mul, And, Or, Xor, Shl, Shr, Divu, Remu, Ltu, Eq, Jmp, Jz, Jnz, Ev, Kind, Num, Now, Ld, St, Out, Send, Arm, Stop, Next, Done}
-use Rattle.task_isa.specs.Code.{word_with, word_of_instr, FitsWord, IsInstr, forms, form_in, with_word, form_of, decoded}
+use Rattle.task_isa.proofs.Common.{◌≡◌, ◌≢◌, ℕ, ◌/◌, ◌%◌, ◌^◌, ◌<◌, ◌≤◌, arith, refl, ap, ◌∙◌, subst, inl, inr, Option, Some, None, IfSome, IfNone, ◌==◌, eqb-true, eq-eqb, cases_Bool, get_or_past, Instr, Li, Mov, Add, Sub, Mul, And, Or, Xor, Shl, Shr, Divu, Remu, Ltu, Eq, Jmp, Jz, Jnz, Ev, Kind, Num, Now, Ld, St, Out, Send, Arm, Stop, Next, Done, word_with, word_of_instr, FitsWord, IsInstr, forms, form_in, with_word}
+use Rattle.task_isa.specs.Code.{form_of, decoded}
 
 -- the fields of a word
 form_in-word_with : (op a b c i : ℕ) → op < 256 → FitsWord a b c i → form_in (word_with op a b c i) ≡ form_of op a b c i

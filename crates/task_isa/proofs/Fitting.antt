@@ -1,10 +1,6 @@
 -- An instruction whose id fits does what names a fitting id.
-use Rattle.std.proofs.Common.{ℕ, ◌/◌, ◌%◌, true, false, ◌==◌, if◌then◌else◌}
-use Rattle.task_isa.specs.declared.act.Act.TheVariants.{Sets, Traps}
-use Rattle.task_isa.specs.declared.outcome.TrapCode.TheVariants.{Divisor}
-use Rattle.task_isa.specs.declared.instr.Instr.{Instr}
-use Rattle.task_isa.specs.declared.instr.Instr.TheVariants.{Divu, Remu, Send, Arm, Stop, Next}
-use Rattle.task_isa.specs.Acts.{Given, Cpu, divided, reg, act_of}
+use Rattle.task_isa.proofs.Common.{ℕ, ◌/◌, ◌%◌, true, false, ◌==◌, if◌then◌else◌, Sets, Traps, Divisor, Instr, Divu, Remu, Send, Arm, Stop, Next, Given, Cpu, divided, reg}
+use Rattle.task_isa.specs.Acts.{act_of}
 use Rattle.task_isa.specs.Runnable.{HasFittingId, NamesFittingId}
 
 divided_fits : (divisor register value : ℕ) → NamesFittingId (divided divisor (Sets register value))

@@ -1,3 +1,4 @@
+mod Common
 pub mod Codes
 mod Sends
 mod Fitting

@@ -1,15 +1,6 @@
 -- A task goes on with a task that its code names.
-use Rattle.std.proofs.Common.{ℕ, zero, suc, ◌<◌, ◌/◌, ◌%◌, Bool, true, false, List, length, inl, inr, subst, sym, ◌==◌, if◌then◌else◌, nat_lt}
-use Rattle.std.proofs.lemmas.Bool.{cases_lt}
-use Rattle.std.proofs.lemmas.List.{get_or_past}
-use Rattle.task_isa.specs.declared.act.Act.TheVariants.{Sets, Loads, Saves, Puts, Sends, Continues, Traps}
-use Rattle.task_isa.specs.declared.instr.Instr.{Instr}
-use Rattle.task_isa.specs.declared.instr.Instr.TheVariants.{Divu, Remu, Next, Done}
-use Rattle.task_isa.specs.declared.outcome.Outcome.{Outcome}
-use Rattle.task_isa.specs.declared.outcome.TrapCode.TheVariants.{Divisor, Index, LogFull}
-use Rattle.task_isa.specs.declared.task_start.TaskStart.{TaskStart}
-use Rattle.task_isa.specs.Acts.{Given, Cpu, divided, reg, act_of}
-use Rattle.task_isa.specs.Meaning.{Config, Effects, Room, RunEnd, Ended, Trapped, Stepped, GoesOn, IsOver, HasTrapped, execute, first_config, given_of, has_room, instr_at, room_of, run, task_end, task_of}
+use Rattle.task_isa.proofs.Common.{ℕ, zero, suc, ◌<◌, ◌/◌, ◌%◌, Bool, true, false, List, length, inl, inr, subst, sym, ◌==◌, if◌then◌else◌, nat_lt, cases_lt, get_or_past, Sets, Loads, Saves, Puts, Sends, Continues, Traps, Instr, Divu, Remu, Next, Done, Outcome, Divisor, Index, LogFull, TaskStart, Given, Cpu, divided, reg, Config, Effects, Room, RunEnd, Ended, Trapped, Stepped, GoesOn, IsOver, HasTrapped, execute, first_config, given_of, has_room, instr_at, room_of, run, task_end, task_of}
+use Rattle.task_isa.specs.Acts.{act_of}
 use Rattle.task_isa.specs.declared.act.Act.{Act}
 use Rattle.task_isa.specs.declared.outcome.Outcome.TheVariants as outcomes
 

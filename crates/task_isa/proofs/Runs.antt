@@ -1,13 +1,5 @@
 -- The evaluator's run stands for the rest of the plain run.
-use Rattle.std.proofs.Common.{◌≡◌, ℕ, suc, ◌-◌, ◌≤◌, List, [], sym, ◌∙◌, ap, arith}
-use Rattle.task_isa.specs.declared.instr.Instr.{Instr}
-use Rattle.task_isa.specs.declared.outcome.Outcome.{Outcome}
-use Rattle.task_isa.specs.declared.outcome.TrapCode.TheVariants.{Limit}
-use Rattle.task_isa.specs.declared.run.Run.{Run}
-use Rattle.task_isa.specs.declared.task_start.TaskStart.{TaskStart}
-use Rattle.task_isa.specs.Acts.{act_of}
-use Rattle.task_isa.specs.Meaning.{Config, Effects, RunEnd, Stepped, GoesOn, IsOver, HasTrapped, Ended, Trapped, execute, given_of, instr_at, room_of, run, task_end, task_of}
-use Rattle.task_isa.specs.Runs.{KeepsRoom, Makes, config_of}
+use Rattle.task_isa.proofs.Common.{◌≡◌, ℕ, suc, ◌-◌, ◌≤◌, List, [], sym, ◌∙◌, ap, arith, Instr, Outcome, Limit, Run, TaskStart, act_of, Config, Effects, RunEnd, Stepped, GoesOn, IsOver, HasTrapped, Ended, Trapped, execute, given_of, instr_at, room_of, run, task_end, task_of, KeepsRoom, Makes, config_of}
 use Rattle.task_isa.specs.declared.flow.Flow.{Flow}
 use Rattle.task_isa.specs.declared.flow.Flow.TheVariants as flows
 use Rattle.task_isa.specs.declared.outcome.Outcome.TheVariants.{Trap}

@@ -1,11 +1,5 @@
 -- The room of each pipe after a send.
-use Rattle.std.proofs.Common.{inl, inr, ◌≡◌, ℕ, ◌+◌, ◌-◌, ◌<◌, ◌≤◌, true, false, cond, List, [], ◌∷◌, ◌++◌, length, refl, sym, ◌∙◌, ap, arith, nat_lt, slice_index, slice_set, get_or-set_other, ◌==◌, lt-ltb, eq-eqb}
-use Rattle.std.proofs.lemmas.Bool.{cases_eq}
-use Rattle.task_isa.specs.declared.act.Act.TheVariants.{Sends}
-use Rattle.task_isa.specs.declared.run.Run.{Run}
-use Rattle.task_isa.specs.Acts.{Given, bit_of}
-use Rattle.task_isa.specs.Meaning.{Room, sent_to, has_room}
-use Rattle.task_isa.specs.Runs.{KeepsRoom, Makes}
+use Rattle.task_isa.proofs.Common.{inl, inr, ◌≡◌, ℕ, ◌+◌, ◌-◌, ◌<◌, ◌≤◌, true, false, cond, List, [], ◌∷◌, ◌++◌, length, refl, sym, ◌∙◌, ap, arith, nat_lt, slice_index, slice_set, get_or-set_other, ◌==◌, lt-ltb, eq-eqb, cases_eq, Sends, Run, Given, bit_of, Room, sent_to, has_room, KeepsRoom, Makes}
 use Rattle.std.proofs.lemmas.List.Sums.{sum_by-append}
 use Rattle.std.proofs.lemmas.Grind.{get_or-set_at}
 use Rattle.std.proofs.lemmas.Bool.Decides.{nat_tests}

@@ -1,15 +1,5 @@
 -- The map of the labels of a task, and the list of them in the order of their lines.
-use Rattle.std.proofs.Common.{◌≡◌, ℕ, suc, ◌<◌, ◌≤◌, Bool, true, false, cond, ltb, List, [], ◌∷◌, ◌++◌, length, map, Option, Some, None, refl, sym, ap, ◌∙◌, inl, inr, arith, lt-ltb, ltb-true, length-append}
-use Rattle.std.specs.Ordering.{nat_cmp, is_eq, match_ordering}
-use Rattle.std.specs.Option.{option_map, option_or}
-use Rattle.std.specs.Cmp.Lexicographic.{slice_cmp}
-use Rattle.std.specs.BTreeMap.{insert_entry}
-use Rattle.std.proofs.lemmas.Bool.{cases_Bool}
-use Rattle.std.proofs.lemmas.List.{map-append}
-use Rattle.ink_base.specs.Lines.{Word}
-use Rattle.task_lines.specs.Labels.{offset_of, with_label}
-use Rattle.task_lines.specs.declared.labels.Label.{Label}
-use Rattle.task_lines.specs.kept.Placed.{seen, put, by_place, listed, ArePlaced, AreKept}
+use Rattle.task_lines.proofs.Common.{◌≡◌, ℕ, suc, ◌<◌, ◌≤◌, Bool, true, false, cond, ltb, List, [], ◌∷◌, ◌++◌, length, map, Option, Some, None, refl, sym, ap, ◌∙◌, inl, inr, arith, lt-ltb, ltb-true, length-append, nat_cmp, is_eq, match_ordering, option_map, option_or, slice_cmp, insert_entry, cases_Bool, map-append, Word, offset_of, with_label, Label, seen, put, by_place, listed, ArePlaced, AreKept}
 use Rattle.std.specs.declared.cmp.Ordering.{Ordering}
 use Rattle.std.specs.declared.cmp.Ordering.TheVariants.{Less, Equal, Greater}
 use Rattle.std.specs.Str.{bytes_eq}

@@ -1,29 +1,5 @@
 -- Each access before the commit keeps what is known while a pick is served.
-use Rattle.std.proofs.Common.{◌≡◌, ℕ, ◌*◌, ◌/◌, ◌^◌, ◌<◌, ◌≤◌, ◌==◌, Bool, true, false, cond, List, length, get_or, arith, refl, ap, ◌∙◌, sym, inl, inr, subst, bit_or}
-use Rattle.std.proofs.Math.Path.{fun_ext}
-use Rattle.std.proofs.lemmas.Bool.{cases_eq}
-use Rattle.std.proofs.lemmas.Nat.{or_lt}
-use Rattle.std.specs.Int.{bit_at}
-use Rattle.fram_words.specs.Places.{Commit, Log, Ring, Memory, store, perform, answer}
-use Rattle.thread_state.specs.Pages.{place_in, working, working_mask, no_writes, Buffer, Copying, Loading, Storing, Buffered, IsCopied, IsUnderWay, put, is_dirty, put_access, copy_access, after_copy}
-use Rattle.thread_state.proofs.Pages.{copy_only, dirty_put_only, copy_working, copy_goes_on, put_working, is_dirty-true, is_dirty-false, no_writes_words}
-use Rattle.task_isa.specs.declared.program.Program.{Program}
-use Rattle.task_isa.specs.declared.sent.Sent.{Sent}
-use Rattle.prog_check.specs.Lookup.{thread_def}
-use Rattle.ink_layout.specs.declared.pick.Pick.{Pick}
-use Rattle.ink_layout.specs.Shape.{pages_of}
-use Rattle.never_cut.specs.declared.model.Model.{Model}
-use Rattle.never_cut.specs.Stands.{Saved, saved, thread_words, log_of, AreLogged, StandsThread}
-use Rattle.never_cut.specs.Entries.{Readings}
-use Rattle.never_cut.specs.Sound.{IsSound}
-use Rattle.never_cut.specs.kept.Picked.{IsPicked}
-use Rattle.task_run.specs.declared.ending.Ending.{Ending}
-use Rattle.task_run.specs.declared.execution.Execution.{Execution}
-use Rattle.task_run.specs.declared.phase.Phase.{Phase}
-use Rattle.task_run.specs.declared.phase.Phase.TheVariants.{WriteCount, LoadTaken, WriteWritten}
-use Rattle.task_run.specs.declared.machine.TaskMachine.{TaskMachine}
-use Rattle.task_run.specs.Machine.{Action, Put, Get, Make, action, want, take}
-use Rattle.task_run.specs.kept.Serving.{rings_of, AreSent, Told, told, Progress, IsReady, Serving}
+use Rattle.task_run.proofs.Common.{◌≡◌, ℕ, ◌*◌, ◌/◌, ◌^◌, ◌<◌, ◌≤◌, ◌==◌, Bool, true, false, cond, List, length, get_or, arith, refl, ap, ◌∙◌, sym, inl, inr, subst, bit_or, fun_ext, cases_eq, or_lt, bit_at, Commit, Log, Ring, Memory, store, perform, answer, place_in, working, working_mask, no_writes, Buffer, Copying, Loading, Storing, Buffered, IsCopied, IsUnderWay, put, is_dirty, put_access, copy_access, after_copy, copy_only, dirty_put_only, copy_working, copy_goes_on, put_working, is_dirty-true, is_dirty-false, no_writes_words, Program, Sent, thread_def, Pick, pages_of, Model, Saved, saved, thread_words, log_of, AreLogged, StandsThread, Readings, IsSound, IsPicked, Ending, Execution, Phase, WriteCount, LoadTaken, WriteWritten, TaskMachine, Action, Put, Get, Make, action, want, take, rings_of, AreSent, Told, told, Progress, IsReady, Serving}
 use Rattle.std.proofs.lemmas.Nat.Bits.{bit_at-lt}
 use Rattle.std.proofs.Math.Pow.{pow-lt}
 

@@ -1,22 +1,6 @@
 -- Where the instructions of an accepted program lead.
-use Rattle.std.proofs.Common.{◌≡◌, ℕ, ◌+◌, ◌-◌, ◌<◌, true, false, length, arith, refl, ◌∙◌, sym, inl, inr, subst, ◌==◌, Option, Some, None, eqb-true}
-use Rattle.std.proofs.lemmas.Bool.{false≢true, cases_Bool, cases_eq}
-use Rattle.std.proofs.lemmas.List.Sums.{passes_at_first}
-use Rattle.ink_base.specs.declared.ids.TaskId.{TaskId}
-use Rattle.task_isa.specs.declared.instr.Instr.{Instr}
-use Rattle.task_isa.specs.declared.instr.Instr.TheVariants.{Li, Mov, Add, Sub, Mul, And, Or, Xor, Shl, Shr, Divu, Remu, Ltu, Eq, Jmp, Jz, Jnz, Ev, Kind, Num, Now, Ld, St, Out, Send, Arm, Stop, Next, Done}
-use Rattle.task_isa.specs.declared.act.Act.{Act}
-use Rattle.task_isa.specs.declared.act.Act.TheVariants.{Sets, Goes, Loads, Saves, Puts, Sends, Arms, Stops, Continues, Ends, Traps}
-use Rattle.task_isa.specs.declared.program.Program.{Program}
-use Rattle.task_isa.specs.declared.program.Task.{Task}
-use Rattle.task_isa.specs.Acts.{Given, Cpu, reg, act_of}
-use Rattle.prog_check.specs.Lookup.{pipe_def, timer_def, task_def, no_task_def, instr_at, first_task}
-use Rattle.prog_check.specs.Accepted.{IsAccepted, IsRightInstr, IsRightTask, ends_code}
-use Rattle.never_cut.specs.declared.model.Model.{Model}
-use Rattle.never_cut.specs.State.{thread_of}
-use Rattle.never_cut.specs.Commit.{task_at}
-use Rattle.never_cut.specs.Entries.{Readings}
-use Rattle.never_cut.specs.Sound.{IsSound}
+use Rattle.task_run.proofs.Common.{◌≡◌, ℕ, ◌+◌, ◌-◌, ◌<◌, true, false, length, arith, refl, ◌∙◌, sym, inl, inr, subst, ◌==◌, Option, Some, None, eqb-true, false≢true, cases_Bool, cases_eq, passes_at_first, TaskId, Instr, Li, Mov, Add, Sub, Mul, And, Or, Xor, Shl, Shr, Divu, Remu, Ltu, Eq, Jmp, Jz, Jnz, Ev, Kind, Num, Now, Ld, St, Out, Send, Arm, Stop, Next, Done, Act, Sets, Goes, Loads, Saves, Puts, Sends, Arms, Stops, Continues, Ends, Traps, Program, Task, Given, Cpu, reg, pipe_def, timer_def, task_def, no_task_def, instr_at, first_task, IsAccepted, IsRightInstr, IsRightTask, ends_code, Model, thread_of, task_at, Readings, IsSound}
+use Rattle.task_isa.specs.Acts.{act_of}
 
 -- what an act leads to is inside of the code, and what it names is of the task's thread
 abbrev pub Lands : Program → (t len at : ℕ) → Act → Type 0

@@ -1,30 +1,6 @@
 -- The service of a pick that finds words in the ranges of their places stays within its own.
-use Rattle.std.proofs.Common.{◌≡◌, ℕ, ◌+◌, ◌-◌, ◌*◌, ◌/◌, ◌%◌, ◌^◌, ◌<◌, ◌≤◌, false, length, Option, Some, None, arith, refl, sym, inl, inr, subst, lt-ltb, le-ltb}
-use Rattle.std.proofs.lemmas.Bool.{false≢true, cases_Bool, cases_lt}
-use Rattle.ink_base.specs.declared.ids.TaskId.{TaskId}
-use Rattle.ink_base.specs.declared.event.Origin.{Origin}
-use Rattle.fram_words.specs.Held.{FitsOrigin}
-use Rattle.thread_state.specs.Pages.{Buffer, is_dirty, after_copy, no_writes}
-use Rattle.task_isa.specs.declared.act.Act.{Act}
-use Rattle.task_isa.specs.declared.act.Act.TheVariants.{Sets, Goes, Loads, Saves, Puts, Sends, Arms, Stops, Continues, Ends, Traps}
-use Rattle.task_isa.specs.declared.program.Program.{Program}
-use Rattle.task_isa.specs.Acts.{Cpu, number_of}
-use Rattle.task_isa.specs.Meaning.{advance, advance_with}
-use Rattle.task_isa.specs.Code.{decoded}
-use Rattle.prog_check.specs.Accepted.{IsAccepted}
-use Rattle.prog_check.specs.Lookup.{thread_def, pipe_def, task_def, instr_at, first_task}
-use Rattle.ink_layout.specs.declared.pick.Pick.{Pick}
-use Rattle.task_run.specs.declared.ending.Ending.{Ending}
-use Rattle.task_run.specs.declared.execution.Execution.{Execution}
-use Rattle.task_run.specs.declared.sending.Sending.{Sending}
-use Rattle.task_run.specs.declared.phase.Phase.{Phase}
-use Rattle.task_run.specs.declared.phase.Phase.TheVariants.{WriteFirst, WriteOrigin, WriteValue, WriteTaken, ReadPeriod, WriteDue, Resume, Fetch, ReadState, WriteState, ReadCount, StoreLog, WriteCount, LoadReader, LoadTaken, ReadWritten, StoreItem, WriteWritten, WriteArmed, WritePeriod, WriteStopped, WriteNext, WriteFinished, ReadTotal, WriteTotal, WriteStamp, StoreCommit, StoreAck, StoreEmpty, Over}
-use Rattle.task_run.specs.declared.machine.TaskMachine.{TaskMachine}
-use Rattle.task_run.specs.Endings.{total_word}
-use Rattle.task_run.specs.Machine.{Action, Put, Get, Make, action, want, take, after, after_action, after_act, after_fetch, after_event, after_value, after_written, after_next, after_commit, release_phase, end_phase, phase_again, first_phase, running_task, begin, proceed, stepped, trap, instr_of, cpu_of, given_by, execution_of, is_late, is_over}
-use Rattle.task_run.specs.Fits.{FitsExecution, FitsChain, FitsPhase, FitsWord}
-use Rattle.task_run.specs.kept.Serving.{IsOfPipe, IsOfTimer}
-use Rattle.task_run.specs.Reached.{task_loaded, IsPhaseOf, IsServiceOf, GoesOn}
+use Rattle.task_run.proofs.Common.{◌≡◌, ℕ, ◌+◌, ◌-◌, ◌*◌, ◌/◌, ◌%◌, ◌^◌, ◌<◌, ◌≤◌, false, length, Option, Some, None, arith, refl, sym, inl, inr, subst, lt-ltb, le-ltb, false≢true, cases_Bool, cases_lt, TaskId, Origin, FitsOrigin, Buffer, is_dirty, after_copy, no_writes, Act, Sets, Goes, Loads, Saves, Puts, Sends, Arms, Stops, Continues, Ends, Traps, Program, Cpu, number_of, advance, advance_with, decoded, IsAccepted, thread_def, pipe_def, task_def, instr_at, first_task, Pick, Ending, Execution, Sending, Phase, WriteFirst, WriteOrigin, WriteValue, WriteTaken, ReadPeriod, WriteDue, Resume, Fetch, ReadState, WriteState, ReadCount, StoreLog, WriteCount, LoadReader, LoadTaken, ReadWritten, StoreItem, WriteWritten, WriteArmed, WritePeriod, WriteStopped, WriteNext, WriteFinished, ReadTotal, WriteTotal, WriteStamp, StoreCommit, StoreAck, StoreEmpty, Over, TaskMachine, total_word, Action, Put, Get, Make, action, want, take, after, after_action, after_act, after_fetch, after_event, after_value, after_written, after_next, after_commit, release_phase, end_phase, phase_again, first_phase, running_task, begin, proceed, stepped, trap, instr_of, cpu_of, given_by, execution_of, is_late, is_over, FitsExecution, FitsChain, FitsPhase, FitsWord, IsOfPipe, IsOfTimer, task_loaded, IsPhaseOf, IsServiceOf}
+use Rattle.task_run.specs.Reached.{GoesOn}
 use Rattle.ink_base.specs.declared.event.Origin.TheVariants as origins
 use Rattle.fram_words.specs.Header as header
 use Rattle.event_pipe.specs.Ring.{has_room}

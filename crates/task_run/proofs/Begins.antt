@@ -1,18 +1,5 @@
 -- A scan's pick tells what a task's first registers have to.
-use Rattle.std.proofs.Common.{◌≡◌, ℕ, [], refl, ap, Option, Some, None}
-use Rattle.ink_base.specs.declared.ids.TaskId.{TaskId}
-use Rattle.fram_words.specs.Places.{Memory}
-use Rattle.task_isa.specs.declared.program.Program.{Program}
-use Rattle.ink_layout.specs.declared.pick.Pick.{Pick}
-use Rattle.never_cut.specs.declared.model.Model.{Model}
-use Rattle.never_cut.specs.Stands.{Saved, saved, StandsThread}
-use Rattle.never_cut.specs.Entries.{Readings}
-use Rattle.never_cut.specs.kept.Picked.{IsPicked}
-use Rattle.never_cut.specs.kept.Steps.{Background}
-use Rattle.never_cut.proofs.Privates.{no_pages}
-use Rattle.task_run.specs.declared.phase.Phase.TheVariants.{WriteFirst, Resume}
-use Rattle.task_run.specs.Machine.{begin, first_phase, execution_of, running_task}
-use Rattle.task_run.specs.Knows.{Knows, KnowsAt, EveryPickBegins}
+use Rattle.task_run.proofs.Common.{◌≡◌, ℕ, [], refl, ap, Option, Some, None, TaskId, Memory, Program, Pick, Model, Saved, saved, StandsThread, Readings, IsPicked, Background, no_pages, WriteFirst, Resume, begin, first_phase, execution_of, running_task, Knows, KnowsAt, EveryPickBegins}
 use Rattle.task_run.specs.kept.Serving.{Begins as Starts}
 use Rattle.task_run.proofs.Accesses.{Holding, unwritten, serving_at}
 use Rattle.task_run.proofs.Traps.{unsent, chain_words}

@@ -1,23 +1,6 @@
 -- The state after the commit of a pick.
-use Rattle.std.proofs.Common.{◌≡◌, ℕ, ◌+◌, Bool, true, false, List, refl, ap, ◌∙◌, sym, Option, None, Some, ◌&&◌, if◌then◌else◌, append-nil}
-use Rattle.ink_base.specs.declared.event.Event.{Event}
-use Rattle.ink_base.specs.declared.event.Origin.{Origin}
-use Rattle.fram_words.specs.Places.{Memory}
-use Rattle.task_isa.specs.declared.program.Program.{Program}
-use Rattle.task_isa.specs.Meaning.{Effects, no_effects}
-use Rattle.prog_check.specs.Lookup.{thread_def}
-use Rattle.ink_layout.specs.declared.pick.Pick.{Pick}
-use Rattle.never_cut.specs.declared.model.Model.{Model}
-use Rattle.never_cut.specs.declared.scan_model.ScanModel.{ScanModel}
-use Rattle.never_cut.specs.declared.thread_model.ThreadModel.{ThreadModel}
-use Rattle.never_cut.specs.declared.pipe_model.PipeModel.{PipeModel}
-use Rattle.never_cut.specs.declared.timer_model.TimerModel.{TimerModel}
-use Rattle.never_cut.specs.State.{thread_of, is_running}
-use Rattle.never_cut.specs.Pending.{pending}
-use Rattle.never_cut.specs.Commit.{commit, expired, ended, end_at, is_expired, is_overdue, taken_from, moved_on, with_sends, with_timers, expired_after, thread_after, with_first, committed, consumed}
-use Rattle.never_cut.specs.kept.Picked.{IsPicked}
-use Rattle.task_run.specs.kept.Serving.{assignment, effects_of, result}
-use Rattle.never_cut.specs.Stands.{saved}
+use Rattle.task_run.proofs.Common.{◌≡◌, ℕ, ◌+◌, Bool, true, false, List, refl, ap, ◌∙◌, sym, Option, None, Some, ◌&&◌, if◌then◌else◌, append-nil, Event, Origin, Memory, Program, Effects, no_effects, thread_def, Pick, Model, ScanModel, ThreadModel, PipeModel, TimerModel, thread_of, is_running, pending, commit, expired, ended, end_at, is_expired, is_overdue, taken_from, moved_on, with_sends, with_timers, expired_after, thread_after, with_first, IsPicked, assignment, effects_of, result, saved}
+use Rattle.never_cut.specs.Commit.{committed, consumed}
 use Rattle.task_isa.specs.declared.task_end.TaskEnd.{TaskEnd}
 use Rattle.task_run.proofs.Effects.{with_commit}
 

@@ -1,41 +1,5 @@
 -- After the store of the commit word the words stand for what the commit makes of the state.
-use Rattle.std.proofs.Common.{◌≡◌, ◌≢◌, ℕ, ◌+◌, ◌^◌, ◌<◌, ◌≤◌, true, false, List, ◌∷◌, length, get_or, arith, refl, ap, ◌∙◌, sym, subst, inl, inr, Option, Some, None, IsSome, All, ◌==◌}
-use Rattle.std.specs.Option.{ForSome}
-use Rattle.std.proofs.lemmas.Bool.{cases_eq}
-use Rattle.std.proofs.lemmas.Nat.{xor_lt}
-use Rattle.std.proofs.lemmas.List.Elements.{All-filter}
-use Rattle.ink_base.specs.declared.event.Event.{Event}
-use Rattle.ink_base.specs.declared.event.Origin.{Origin}
-use Rattle.ink_base.specs.declared.output.Output.{Output}
-use Rattle.fram_words.specs.Places.{Commit, Tail, Memory, store}
-use Rattle.fram_words.specs.Held.{origin_word}
-use Rattle.fram_words.proofs.Frames.{store-same, store-other}
-use Rattle.thread_state.specs.Pages.{committed, working_mask, Buffer}
-use Rattle.thread_state.proofs.Pages.{commit_committed, commit_other}
-use Rattle.task_isa.specs.declared.program.Program.{Program}
-use Rattle.task_isa.specs.declared.sent.Sent.{Sent}
-use Rattle.prog_check.specs.Accepted.{IsAccepted}
-use Rattle.prog_check.specs.Lookup.{thread_def}
-use Rattle.ink_layout.specs.declared.pick.Pick.{Pick}
-use Rattle.ink_layout.specs.Shape.{pages_of}
-use Rattle.never_cut.specs.declared.model.Model.{Model}
-use Rattle.never_cut.specs.declared.scan_model.ScanModel.{ScanModel}
-use Rattle.never_cut.specs.declared.thread_model.ThreadModel.{ThreadModel}
-use Rattle.never_cut.specs.State.{thread_of, queue_of, is_running}
-use Rattle.never_cut.specs.Entries.{Readings, Legal, ArePassed, IsCalm}
-use Rattle.never_cut.specs.Commit.{is_of_queue, outputs_of}
-use Rattle.never_cut.specs.Stands.{Saved, saved, thread_words, log_of, AreLogged, StandsThread, StandsPrivate, slots_of}
-use Rattle.push_core.specs.Queue.{StandsQueue, published}
-use Rattle.never_cut.specs.Sound.{IsSound, HasStamps}
-use Rattle.never_cut.specs.kept.Actors.{StandsForKernel}
-use Rattle.never_cut.proofs.Beginnings.{Begins}
-use Rattle.never_cut.proofs.PickedEvents.{picked_begins}
-use Rattle.task_run.specs.declared.ending.Ending.{Ending}
-use Rattle.task_run.specs.declared.execution.Execution.{Execution}
-use Rattle.task_run.specs.declared.phase.Phase.TheVariants.{StoreCommit}
-use Rattle.task_run.specs.Machine.{after_commit, release_phase, at_phase}
-use Rattle.task_run.specs.kept.Serving.{assignment, whole, result, served, rings_of, AreSent, Serving}
-use Rattle.task_run.specs.Knows.{Releasing, Knows}
+use Rattle.task_run.proofs.Common.{◌≡◌, ◌≢◌, ℕ, ◌+◌, ◌^◌, ◌<◌, ◌≤◌, true, false, List, ◌∷◌, length, get_or, arith, refl, ap, ◌∙◌, sym, subst, inl, inr, Option, Some, None, IsSome, All, ◌==◌, ForSome, cases_eq, xor_lt, All-filter, Event, Origin, Output, Commit, Tail, Memory, store, origin_word, store-same, store-other, committed, working_mask, Buffer, commit_committed, commit_other, Program, Sent, IsAccepted, thread_def, Pick, pages_of, Model, ScanModel, ThreadModel, thread_of, queue_of, is_running, Readings, Legal, ArePassed, IsCalm, is_of_queue, outputs_of, Saved, saved, thread_words, log_of, AreLogged, StandsThread, StandsPrivate, slots_of, StandsQueue, published, IsSound, HasStamps, StandsForKernel, Begins, picked_begins, Ending, Execution, StoreCommit, after_commit, release_phase, at_phase, assignment, whole, result, served, rings_of, AreSent, Serving, Releasing, Knows}
 use Rattle.ink_base.specs.declared.event.Origin.TheVariants as origins
 use Rattle.ink_base.specs.declared.entry.Entry.TheVariants as entries
 use Rattle.never_cut.proofs.SoundParts.{parts_of}

@@ -1,25 +1,5 @@
 -- The accesses that consume the event of a pipe or a timer.
-use Rattle.std.proofs.Common.{◌≡◌, ℕ, ◌+◌, ◌*◌, ◌<◌, arith, refl, ap, ◌∙◌, sym, subst}
-use Rattle.fram_words.specs.Places.{Memory, store}
-use Rattle.fram_words.specs.Held.{origin_word}
-use Rattle.thread_state.specs.Pages.{place_in, working, working_mask, Buffer}
-use Rattle.ink_base.specs.declared.event.Origin.{Origin}
-use Rattle.persist_timer.specs.Due.{after_service}
-use Rattle.task_isa.specs.declared.program.Program.{Program}
-use Rattle.prog_check.specs.Accepted.{IsAccepted}
-use Rattle.ink_layout.specs.declared.pick.Pick.{Pick}
-use Rattle.never_cut.specs.declared.model.Model.{Model}
-use Rattle.never_cut.specs.Entries.{Readings}
-use Rattle.never_cut.specs.Sound.{IsSound}
-use Rattle.never_cut.specs.Stands.{Saved, saved}
-use Rattle.never_cut.proofs.Beginnings.{Begins}
-use Rattle.never_cut.proofs.PickedEvents.{picked_begins}
-use Rattle.task_run.specs.declared.ending.Ending.{Ending}
-use Rattle.task_run.specs.declared.execution.Execution.{Execution}
-use Rattle.task_run.specs.declared.phase.Phase.TheVariants.{WriteTaken, ReadPeriod, WriteDue}
-use Rattle.task_run.specs.declared.machine.TaskMachine.{TaskMachine}
-use Rattle.task_run.specs.Machine.{after_event}
-use Rattle.task_run.specs.kept.Serving.{changed, with_due, Serving}
+use Rattle.task_run.proofs.Common.{◌≡◌, ℕ, ◌+◌, ◌*◌, ◌<◌, arith, refl, ap, ◌∙◌, sym, subst, Memory, store, origin_word, place_in, working, working_mask, Buffer, Origin, after_service, Program, IsAccepted, Pick, Model, Readings, IsSound, Saved, saved, Begins, picked_begins, Ending, Execution, WriteTaken, ReadPeriod, WriteDue, TaskMachine, after_event, changed, with_due, Serving}
 use Rattle.fram_words.specs.Header as header
 use Rattle.ink_base.specs.declared.event.Origin.TheVariants as origins
 use Rattle.task_run.proofs.Accesses.{machine_at, Steps, Holding, put_step, holding_load, holding_put, serving_at}

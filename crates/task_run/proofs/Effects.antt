@@ -1,19 +1,5 @@
 -- What a commit makes of outputs and threads.
-use Rattle.std.proofs.Common.{◌≡◌, ◌≢◌, ℕ, ◌+◌, ◌<◌, false, List, [], ◌∷◌, ◌++◌, length, arith, refl, ap, ◌∙◌, sym, subst, None, filter, slice_set, ◌==◌, eq-eqb, ne_eqb, append-nil, get_or-set_same, get_or-set_other}
-use Rattle.std.proofs.lemmas.List.Elements.{filter-append}
-use Rattle.ink_base.specs.declared.event.Event.{Event}
-use Rattle.ink_base.specs.declared.event.Origin.{Origin}
-use Rattle.ink_base.specs.declared.output.Output.{Output}
-use Rattle.task_isa.specs.Meaning.{RunEnd, Ended, Trapped, task_end}
-use Rattle.never_cut.specs.declared.model.Model.{Model}
-use Rattle.never_cut.specs.declared.thread_model.ThreadModel.{ThreadModel}
-use Rattle.never_cut.specs.declared.pipe_model.PipeModel.{PipeModel}
-use Rattle.never_cut.specs.declared.timer_model.TimerModel.{TimerModel}
-use Rattle.never_cut.specs.State.{no_thread, thread_of}
-use Rattle.never_cut.specs.Commit.{stamped, outputs_of, with_end, expired_after, thread_after}
-use Rattle.never_cut.specs.Stands.{Saved, flag}
-use Rattle.task_run.specs.declared.ending.Ending.{Ending}
-use Rattle.task_run.specs.kept.Serving.{rested, finished_by, counted, concluded, IsEndOf}
+use Rattle.task_run.proofs.Common.{◌≡◌, ◌≢◌, ℕ, ◌+◌, ◌<◌, false, List, [], ◌∷◌, ◌++◌, length, arith, refl, ap, ◌∙◌, sym, subst, None, filter, slice_set, ◌==◌, eq-eqb, ne_eqb, append-nil, get_or-set_same, get_or-set_other, filter-append, Event, Origin, Output, RunEnd, Ended, Trapped, task_end, Model, ThreadModel, PipeModel, TimerModel, no_thread, thread_of, stamped, outputs_of, with_end, expired_after, thread_after, Saved, flag, Ending, rested, finished_by, counted, concluded, IsEndOf}
 use Rattle.ink_base.specs.declared.event.Origin.TheVariants as origins
 use Rattle.task_isa.specs.declared.outcome.Outcome.TheVariants as outcomes
 use Rattle.task_run.specs.declared.ending.Ending.TheVariants as endings

@@ -1,24 +1,5 @@
 -- The accesses that write the end of a service.
-use Rattle.std.proofs.Common.{◌≡◌, ℕ, ◌+◌, true, false, List, length, get_or, refl, ap, ◌∙◌, sym, subst, arith, Option, Some, None}
-use Rattle.fram_words.specs.Places.{Memory, store}
-use Rattle.thread_state.specs.Pages.{place_in, working, working_mask, Buffer, put}
-use Rattle.ink_base.specs.declared.ids.TaskId.{TaskId}
-use Rattle.ink_base.specs.declared.event.Event.{Event}
-use Rattle.ink_base.specs.declared.event.Origin.{Origin}
-use Rattle.task_isa.specs.declared.program.Program.{Program}
-use Rattle.task_isa.specs.declared.sent.Sent.{Sent}
-use Rattle.ink_layout.specs.declared.pick.Pick.{Pick}
-use Rattle.never_cut.specs.declared.model.Model.{Model}
-use Rattle.never_cut.specs.State.{thread_of}
-use Rattle.never_cut.specs.Commit.{is_of_queue}
-use Rattle.never_cut.specs.Stands.{Saved, saved, thread_words, log_of, AreLogged, flag}
-use Rattle.task_run.specs.declared.ending.Ending.{Ending}
-use Rattle.task_run.specs.declared.execution.Execution.{Execution}
-use Rattle.task_run.specs.declared.phase.Phase.TheVariants.{WriteNext, WriteFinished, ReadTotal, WriteTotal, WriteStamp, StoreCommit}
-use Rattle.task_run.specs.declared.machine.TaskMachine.{TaskMachine}
-use Rattle.task_run.specs.Endings.{next_by, total_word}
-use Rattle.task_run.specs.Machine.{after_next, end_phase}
-use Rattle.task_run.specs.kept.Serving.{assignment, begun, consumed, worked, rested, finish, finished_by, with_total, counted, concluded, IsLast, Finishing, Told, told, Serving}
+use Rattle.task_run.proofs.Common.{◌≡◌, ℕ, ◌+◌, true, false, List, length, get_or, refl, ap, ◌∙◌, sym, subst, arith, Option, Some, None, Memory, store, place_in, working, working_mask, Buffer, put, TaskId, Event, Origin, Program, Sent, Pick, Model, thread_of, is_of_queue, Saved, saved, thread_words, log_of, AreLogged, flag, Ending, Execution, WriteNext, WriteFinished, ReadTotal, WriteTotal, WriteStamp, StoreCommit, TaskMachine, next_by, total_word, after_next, end_phase, assignment, begun, consumed, worked, rested, finish, finished_by, with_total, counted, concluded, IsLast, Finishing, Told, told, Serving}
 use Rattle.ink_base.specs.declared.event.Origin.TheVariants as origins
 use Rattle.task_run.specs.declared.ending.Ending.TheVariants as endings
 use Rattle.task_run.proofs.Accesses.{machine_at, Steps, Holding, put_step, holding_load, holding_put, serving_at}

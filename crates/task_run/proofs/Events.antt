@@ -1,25 +1,6 @@
 -- The accesses that write the event's words, and the start of its task.
-use Rattle.std.proofs.Common.{◌≡◌, ℕ, false, List, [], refl, ap, ◌∙◌, sym, subst, arith, None}
-use Rattle.fram_words.specs.Places.{Memory, store}
-use Rattle.fram_words.specs.Held.{origin_word}
-use Rattle.thread_state.specs.Pages.{place_in, working_mask, Buffer}
-use Rattle.ink_base.specs.declared.event.Origin.{Origin}
-use Rattle.task_isa.specs.declared.program.Program.{Program}
-use Rattle.task_isa.specs.declared.sent.Sent.{Sent}
-use Rattle.prog_check.specs.Lookup.{first_task}
-use Rattle.prog_check.specs.Accepted.{IsAccepted}
-use Rattle.ink_layout.specs.declared.pick.Pick.{Pick}
-use Rattle.never_cut.specs.declared.model.Model.{Model}
-use Rattle.never_cut.specs.Entries.{Readings}
-use Rattle.never_cut.specs.Sound.{IsSound}
-use Rattle.never_cut.specs.Stands.{Saved, saved}
-use Rattle.task_run.specs.declared.ending.Ending.{Ending}
-use Rattle.task_run.specs.declared.execution.Execution.{Execution}
-use Rattle.task_run.specs.declared.phase.Phase.{Phase}
-use Rattle.task_run.specs.declared.phase.Phase.TheVariants.{WriteFirst, WriteOrigin, WriteValue, WriteTaken, ReadPeriod, Fetch, WriteNext}
-use Rattle.task_run.specs.declared.machine.TaskMachine.{TaskMachine}
-use Rattle.task_run.specs.Machine.{after_event, after_value, execution_of}
-use Rattle.task_run.specs.kept.Serving.{assignment, begun, consumed, Before, Again, Beginning, IsOfPipe, IsOfTimer, told, Serving, Begins as Starts}
+use Rattle.task_run.proofs.Common.{◌≡◌, ℕ, false, List, [], refl, ap, ◌∙◌, sym, subst, arith, None, Memory, store, origin_word, place_in, working_mask, Buffer, Origin, Program, Sent, first_task, IsAccepted, Pick, Model, Readings, IsSound, Saved, saved, Ending, Execution, Phase, WriteFirst, WriteOrigin, WriteValue, WriteTaken, ReadPeriod, Fetch, WriteNext, TaskMachine, after_event, after_value, execution_of, assignment, begun, consumed, Before, Again, Beginning, IsOfPipe, IsOfTimer, told, Serving}
+use Rattle.task_run.specs.kept.Serving.{Begins as Starts}
 use Rattle.ink_base.specs.declared.event.Origin.TheVariants as origins
 use Rattle.task_run.specs.declared.ending.Ending.TheVariants as endings
 use Rattle.task_run.proofs.Accesses.{machine_at, Steps, Holding, put_step, holding_put, serving_at}

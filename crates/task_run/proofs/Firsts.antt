@@ -1,8 +1,5 @@
 -- The first place of a list that passes a test.
-use Rattle.std.proofs.Common.{◌≡◌, ◌≤◌, Bool, List, length, arith, refl, inl, inr, nat_lt, not, unwrap_or, ltb-false}
-use Rattle.std.specs.List.{position, position_or_len}
-use Rattle.std.proofs.lemmas.Bool.{cases_Bool}
-use Rattle.std.proofs.lemmas.List.Sums.{prefix_len-le-length}
+use Rattle.task_run.proofs.Common.{◌≡◌, ◌≤◌, Bool, List, length, arith, refl, inl, inr, nat_lt, not, unwrap_or, ltb-false, position, position_or_len, cases_Bool, prefix_len-le-length}
 
 pub unwrap_or-position : {X : Type 0} (p : X → Bool) (xs : List X) → unwrap_or (position p xs) (length xs) ≡ position_or_len p xs
 unwrap_or-position p xs =

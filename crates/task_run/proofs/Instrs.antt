@@ -1,30 +1,6 @@
 -- An instruction is fetched, and begins.
-use Rattle.std.proofs.Common.{◌≡◌, ℕ, ◌<◌, List, length, refl, ap, ◌∙◌, sym, inl, inr, subst, nat_lt, Some, ltb-true}
-use Rattle.std.proofs.lemmas.Bool.{cases_Bool}
-use Rattle.fram_words.specs.Places.{Code, Memory}
-use Rattle.thread_state.specs.Pages.{Buffer}
-use Rattle.task_isa.specs.declared.act.Act.{Act}
-use Rattle.task_isa.specs.declared.act.Act.TheVariants.{Sets, Goes, Loads, Saves, Puts, Sends, Arms, Stops, Continues, Ends, Traps}
-use Rattle.task_isa.specs.declared.outcome.TrapCode.{TrapCode}
-use Rattle.task_isa.specs.declared.outcome.TrapCode.TheVariants.{Index}
-use Rattle.task_isa.specs.declared.program.Program.{Program}
-use Rattle.task_isa.specs.declared.sent.Sent.{Sent}
-use Rattle.task_isa.specs.Acts.{Cpu, act_of}
-use Rattle.task_isa.specs.Meaning.{GoesOn, HasTrapped, execute, advance_with, instr_at}
-use Rattle.task_isa.specs.Code.{word_of_instr, decoded}
-use Rattle.prog_check.specs.Lookup.{thread_def}
-use Rattle.prog_check.specs.Accepted.{IsAccepted}
-use Rattle.ink_layout.specs.declared.pick.Pick.{Pick}
-use Rattle.never_cut.specs.declared.model.Model.{Model}
-use Rattle.never_cut.specs.Entries.{Readings}
-use Rattle.never_cut.specs.Sound.{HasShape, IsSound}
-use Rattle.never_cut.specs.Stands.{Saved, StandsPrivate}
-use Rattle.task_run.specs.declared.ending.Ending.{Ending}
-use Rattle.task_run.specs.declared.execution.Execution.{Execution}
-use Rattle.task_run.specs.declared.phase.Phase.TheVariants.{Fetch, ReadState, WriteState, ReadCount, LoadReader, WriteArmed, WriteStopped, WriteNext}
-use Rattle.task_run.specs.declared.machine.TaskMachine.{TaskMachine}
-use Rattle.task_run.specs.Machine.{trap, proceed, stepped, cpu_of, after_act, after_fetch, instr_of}
-use Rattle.task_run.specs.kept.Serving.{Assignment, assignment, config_of, Told, told, RunningIn, Serving}
+use Rattle.task_run.proofs.Common.{◌≡◌, ℕ, ◌<◌, List, length, refl, ap, ◌∙◌, sym, inl, inr, subst, nat_lt, Some, ltb-true, cases_Bool, Code, Memory, Buffer, Act, Sets, Goes, Loads, Saves, Puts, Sends, Arms, Stops, Continues, Ends, Traps, TrapCode, Index, Program, Sent, Cpu, act_of, GoesOn, HasTrapped, execute, advance_with, word_of_instr, decoded, thread_def, IsAccepted, Pick, Model, Readings, HasShape, IsSound, Saved, StandsPrivate, Ending, Execution, Fetch, ReadState, WriteState, ReadCount, LoadReader, WriteArmed, WriteStopped, WriteNext, TaskMachine, trap, proceed, stepped, cpu_of, after_act, after_fetch, instr_of, Assignment, assignment, config_of, Told, told, RunningIn, Serving}
+use Rattle.task_isa.specs.Meaning.{instr_at}
 use Rattle.task_isa.specs.declared.outcome.Outcome.TheVariants as outcomes
 use Rattle.task_isa.proofs.Codes.{decoded-word}
 use Rattle.task_run.specs.declared.ending.Ending.TheVariants as endings

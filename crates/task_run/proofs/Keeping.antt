@@ -1,28 +1,5 @@
 -- An access of a task keeps what the words stand for: those before the commit, the commit, and those of the release.
-use Rattle.std.proofs.Common.{◌≡◌, ℕ, ◌+◌, ◌/◌, ◌%◌, ◌<◌, false, length, arith, refl, ap, ◌∙◌, sym, inl, inr, subst}
-use Rattle.std.proofs.lemmas.Bool.{cases_Bool, cases_eq}
-use Rattle.fram_words.specs.Places.{Commit, Slot, Ack, Memory, Access, store, perform, answer}
-use Rattle.fram_words.proofs.Frames.{store-same}
-use Rattle.thread_state.specs.Pages.{Buffer, Copying, Loading, Storing, IsUnderWay, is_dirty, put_access, copy_access}
-use Rattle.task_isa.specs.declared.program.Program.{Program}
-use Rattle.prog_check.specs.Lookup.{thread_def}
-use Rattle.ink_layout.specs.declared.pick.Pick.{Pick}
-use Rattle.never_cut.specs.declared.model.Model.{Model}
-use Rattle.never_cut.specs.State.{thread_of}
-use Rattle.never_cut.specs.Commit.{commit}
-use Rattle.never_cut.specs.Entries.{Readings}
-use Rattle.never_cut.specs.Stands.{StandsPrivate}
-use Rattle.never_cut.specs.kept.Actors.{StandsForKernel, IsAllowed}
-use Rattle.never_cut.specs.kept.Steps.{Background}
-use Rattle.never_cut.proofs.Privates.{private_stays, ack_blocks}
-use Rattle.task_run.specs.declared.ending.Ending.{Ending}
-use Rattle.task_run.specs.declared.execution.Execution.{Execution}
-use Rattle.task_run.specs.declared.phase.Phase.{Phase}
-use Rattle.task_run.specs.declared.phase.Phase.TheVariants.{StoreCommit, StoreAck, StoreEmpty, Over}
-use Rattle.task_run.specs.declared.machine.TaskMachine.{TaskMachine}
-use Rattle.task_run.specs.Machine.{want, take, after_commit, at_phase}
-use Rattle.task_run.specs.kept.Serving.{Serving}
-use Rattle.task_run.specs.Knows.{Releasing, Knows, KnowsAt, SameCommitted, KeepsAll}
+use Rattle.task_run.proofs.Common.{◌≡◌, ℕ, ◌+◌, ◌/◌, ◌%◌, ◌<◌, false, length, arith, refl, ap, ◌∙◌, sym, inl, inr, subst, cases_Bool, cases_eq, Commit, Slot, Ack, Memory, Access, store, perform, answer, store-same, Buffer, Copying, Loading, Storing, IsUnderWay, is_dirty, put_access, copy_access, Program, thread_def, Pick, Model, thread_of, commit, Readings, StandsPrivate, StandsForKernel, IsAllowed, Background, private_stays, ack_blocks, Ending, Execution, Phase, StoreCommit, StoreAck, StoreEmpty, Over, TaskMachine, want, take, after_commit, at_phase, Serving, Releasing, Knows, KnowsAt, SameCommitted, KeepsAll}
 use Rattle.ink_base.specs.declared.ids.SourceId.{SourceId}
 use Rattle.push_core.specs.Slots.{empty_word}
 use Rattle.never_cut.proofs.Releases.{after_release, release_private, release_queues, release_calm, release_other}

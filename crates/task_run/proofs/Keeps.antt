@@ -1,29 +1,5 @@
 -- Each access of a task keeps what the words stand for, and what the registers tell.
-use Rattle.std.proofs.Common.{◌≡◌, ℕ, ◌+◌, ◌*◌, ◌/◌, ◌^◌, Bool, false, length, arith, refl, ap, sym, inl, inr, subst, if◌then◌else◌}
-use Rattle.std.proofs.lemmas.Bool.{false≢true, cases_Bool}
-use Rattle.fram_words.specs.Places.{Place, Code, Log, Memory, Load, Store}
-use Rattle.fram_words.specs.Held.{origin_word}
-use Rattle.event_pipe.specs.Ring.{ring_index}
-use Rattle.thread_state.specs.Pages.{Buffer, IsUnderWay, put_access}
-use Rattle.task_isa.specs.declared.program.Program.{Program}
-use Rattle.task_isa.specs.Meaning.{sent_to}
-use Rattle.prog_check.specs.Lookup.{pipe_def}
-use Rattle.ink_layout.specs.declared.pick.Pick.{Pick}
-use Rattle.never_cut.specs.declared.model.Model.{Model}
-use Rattle.never_cut.specs.Entries.{Readings}
-use Rattle.never_cut.specs.Stands.{Saved, saved}
-use Rattle.never_cut.specs.kept.Steps.{Background}
-use Rattle.persist_timer.specs.Due.{armed}
-use Rattle.task_run.specs.declared.ending.Ending.{Ending}
-use Rattle.task_run.specs.declared.execution.Execution.{Execution}
-use Rattle.task_run.specs.declared.sending.Sending.{Sending}
-use Rattle.task_run.specs.declared.phase.Phase.{Phase}
-use Rattle.task_run.specs.declared.phase.Phase.TheVariants.{WriteFirst, WriteOrigin, WriteValue, WriteTaken, ReadPeriod, WriteDue, Resume, Fetch, ReadState, WriteState, ReadCount, StoreLog, WriteCount, LoadReader, LoadTaken, ReadWritten, StoreItem, WriteWritten, WriteArmed, WritePeriod, WriteStopped, WriteNext, WriteFinished, ReadTotal, WriteTotal, WriteStamp, StoreCommit, StoreAck, StoreEmpty, Over}
-use Rattle.task_run.specs.declared.machine.TaskMachine.{TaskMachine}
-use Rattle.task_run.specs.Endings.{next_by, total_word}
-use Rattle.task_run.specs.Machine.{want, is_over, device}
-use Rattle.task_run.specs.kept.Serving.{told, IsReady, Serving}
-use Rattle.task_run.specs.Knows.{KnowsAt, KeepsAll, EveryTaskCommits}
+use Rattle.task_run.proofs.Common.{◌≡◌, ℕ, ◌+◌, ◌*◌, ◌/◌, ◌^◌, Bool, false, length, arith, refl, ap, sym, inl, inr, subst, if◌then◌else◌, false≢true, cases_Bool, Place, Code, Log, Memory, Load, Store, origin_word, ring_index, Buffer, IsUnderWay, put_access, Program, sent_to, pipe_def, Pick, Model, Readings, Saved, saved, Background, armed, Ending, Execution, Sending, Phase, WriteFirst, WriteOrigin, WriteValue, WriteTaken, ReadPeriod, WriteDue, Resume, Fetch, ReadState, WriteState, ReadCount, StoreLog, WriteCount, LoadReader, LoadTaken, ReadWritten, StoreItem, WriteWritten, WriteArmed, WritePeriod, WriteStopped, WriteNext, WriteFinished, ReadTotal, WriteTotal, WriteStamp, StoreCommit, StoreAck, StoreEmpty, Over, TaskMachine, next_by, total_word, want, is_over, device, told, IsReady, Serving, KnowsAt, KeepsAll, EveryTaskCommits}
 use Rattle.task_run.specs.Machine as machine
 use Rattle.task_run.proofs.Accesses.{machine_at}
 use Rattle.task_run.proofs.Kept.{log_step_private, log_step_kernel, ring_step_private, ring_step_kernel}

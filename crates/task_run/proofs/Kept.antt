@@ -1,19 +1,5 @@
 -- An access that keeps the committed copies, the code, the committed outputs and the items in the rings keeps what the words stand for.
-use Rattle.std.proofs.Common.{◌≡◌, ◌≢◌, ℕ, ◌+◌, ◌/◌, ◌%◌, ◌^◌, ◌<◌, ◌≤◌, length, arith, refl, ap, ◌∙◌, sym, inl, inr, subst, eqb-true}
-use Rattle.std.proofs.lemmas.Bool.{cases_Bool, cases_eq}
-use Rattle.std.specs.Int.{bit_at}
-use Rattle.fram_words.specs.Places.{Place, Code, Commit, Page, Log, Ring, Tail, Slot, Clock, Memory, store, perform}
-use Rattle.fram_words.proofs.Frames.{store-other}
-use Rattle.thread_state.specs.Pages.{committed, working_mask, Buffer, IsUnderWay, IsOutside, is_dirty, put_access}
-use Rattle.thread_state.proofs.Pages.{copy_only, dirty_put_only, copy_committed, put_committed}
-use Rattle.task_isa.specs.declared.program.Program.{Program}
-use Rattle.prog_check.specs.Lookup.{thread_def, pipe_def}
-use Rattle.ink_layout.specs.Shape.{pages_of}
-use Rattle.never_cut.specs.declared.model.Model.{Model}
-use Rattle.never_cut.specs.State.{pipe_of}
-use Rattle.never_cut.specs.Commit.{outputs_of}
-use Rattle.never_cut.specs.Stands.{StandsThread, StandsPrivate}
-use Rattle.never_cut.specs.kept.Actors.{StandsForKernel}
+use Rattle.task_run.proofs.Common.{◌≡◌, ◌≢◌, ℕ, ◌+◌, ◌/◌, ◌%◌, ◌^◌, ◌<◌, ◌≤◌, length, arith, refl, ap, ◌∙◌, sym, inl, inr, subst, eqb-true, cases_Bool, cases_eq, bit_at, Place, Code, Commit, Page, Log, Ring, Tail, Slot, Clock, Memory, store, perform, store-other, committed, working_mask, Buffer, IsUnderWay, IsOutside, is_dirty, put_access, copy_only, dirty_put_only, copy_committed, put_committed, Program, thread_def, pipe_def, pages_of, Model, pipe_of, outputs_of, StandsThread, StandsPrivate, StandsForKernel}
 use Rattle.push_core.proofs.Queues.{queue_same}
 
 pub thread_frame : (program : Program) (words new : Memory) (m : Model) (t : ℕ) → new (Commit t) ≡ words (Commit t) →

@@ -1,3 +1,4 @@
+mod Common
 pub mod Accesses
 pub mod Acts
 pub mod Begins

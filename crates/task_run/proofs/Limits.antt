@@ -1,32 +1,5 @@
 -- The numbers of offsets, positions, events, delays, chains and totals are in their ranges.
-use Rattle.std.proofs.Common.{◌≡◌, ℕ, ◌+◌, ◌^◌, ◌<◌, ◌≤◌, Option, Some, None, length, arith, refl, ap, subst, eq-eqb, lt-ltb}
-use Rattle.std.proofs.lemmas.List.Sums.{get_or-le-sum_by}
-use Rattle.ink_base.specs.declared.event.Event.{Event}
-use Rattle.fram_words.specs.Places.{Memory}
-use Rattle.task_isa.specs.declared.program.Task.{Task}
-use Rattle.prog_check.specs.Lookup.{thread_def, task_def, no_task_def, code_len}
-use Rattle.prog_check.specs.Accepted.{IsAccepted}
-use Rattle.never_cut.specs.Sound.{IsQueued, IsSound}
-use Rattle.push_core.specs.Queue.{published, event_at}
-use Rattle.never_cut.specs.kept.Actors.{IsFinishing}
-use Rattle.never_cut.specs.kept.Steps.{Background}
-use Rattle.task_run.specs.declared.execution.Execution.{Execution}
-use Rattle.task_run.specs.Fits.{FitsExecution, FitsChain}
-use Rattle.std.specs.Option.{ForSome}
-use Rattle.ink_base.specs.declared.ids.TaskId.{TaskId}
-use Rattle.ink_base.specs.declared.event.Origin.{Origin}
-use Rattle.task_isa.specs.declared.program.Program.{Program}
-use Rattle.task_isa.specs.Acts.{number_of}
-use Rattle.ink_layout.specs.declared.pick.Pick.{Pick}
-use Rattle.never_cut.specs.declared.model.Model.{Model}
-use Rattle.never_cut.specs.State.{thread_of, queue_of}
-use Rattle.never_cut.specs.Entries.{Readings}
-use Rattle.never_cut.specs.kept.Picked.{IsLoaded}
-use Rattle.never_cut.specs.Stands.{Saved, period_word}
-use Rattle.never_cut.proofs.PickedEvents.{IsServable}
-use Rattle.task_run.specs.declared.ending.Ending.{Ending}
-use Rattle.fram_words.specs.Held.{FitsOrigin}
-use Rattle.task_run.specs.kept.Serving.{Assignment, IsOfPipe, IsOfTimer, begun, rested, finished_by, total_of, worked}
+use Rattle.task_run.proofs.Common.{◌≡◌, ℕ, ◌+◌, ◌^◌, ◌<◌, ◌≤◌, Option, Some, None, length, arith, refl, ap, subst, eq-eqb, lt-ltb, get_or-le-sum_by, Event, Memory, Task, thread_def, task_def, no_task_def, code_len, IsAccepted, IsQueued, IsSound, published, event_at, IsFinishing, Background, Execution, FitsExecution, FitsChain, ForSome, TaskId, Origin, Program, number_of, Pick, Model, thread_of, queue_of, Readings, IsLoaded, Saved, period_word, IsServable, Ending, FitsOrigin, Assignment, IsOfPipe, IsOfTimer, begun, rested, finished_by, total_of, worked}
 use Rattle.ink_base.specs.declared.event.Origin.TheVariants as origins
 use Rattle.task_run.specs.declared.ending.Ending.TheVariants as endings
 use Rattle.task_run.proofs.Traps.{Keeps, begun-keeps}

@@ -1,22 +1,5 @@
 -- What each thread's words say after the commit of a pick.
-use Rattle.std.proofs.Common.{◌≡◌, ◌≢◌, ℕ, ◌+◌, ◌<◌, Bool, true, false, List, ◌++◌, length, refl, ap, ◌∙◌, sym, subst, length-set, Option, None, Some, if◌then◌else◌}
-use Rattle.ink_base.specs.declared.event.Event.{Event}
-use Rattle.ink_base.specs.declared.event.Origin.{Origin}
-use Rattle.ink_base.specs.declared.ids.TaskId.{TaskId}
-use Rattle.ink_base.specs.declared.output.Output.{Output}
-use Rattle.task_isa.specs.declared.program.Program.{Program}
-use Rattle.task_isa.specs.Meaning.{Effects, RunEnd, task_end}
-use Rattle.ink_layout.specs.declared.pick.Pick.{Pick}
-use Rattle.never_cut.specs.declared.model.Model.{Model}
-use Rattle.never_cut.specs.declared.thread_model.ThreadModel.{ThreadModel}
-use Rattle.never_cut.specs.declared.pipe_model.PipeModel.{PipeModel}
-use Rattle.never_cut.specs.declared.timer_model.TimerModel.{TimerModel}
-use Rattle.never_cut.specs.State.{thread_of, is_running}
-use Rattle.never_cut.specs.Commit.{stamped, outputs_of, with_first, thread_after, with_sends, with_timers}
-use Rattle.never_cut.specs.Stands.{Saved, saved}
-use Rattle.never_cut.specs.Sound.{HasShape}
-use Rattle.task_run.specs.declared.ending.Ending.{Ending}
-use Rattle.task_run.specs.kept.Serving.{Assignment, assignment, whole, consumed, begun, with_effects, written_with, due_with, result, concluded, served, IsEnd, IsEndOf}
+use Rattle.task_run.proofs.Common.{◌≡◌, ◌≢◌, ℕ, ◌+◌, ◌<◌, Bool, true, false, List, ◌++◌, length, refl, ap, ◌∙◌, sym, subst, length-set, Option, None, Some, if◌then◌else◌, Event, Origin, TaskId, Output, Program, Effects, RunEnd, task_end, Pick, Model, ThreadModel, PipeModel, TimerModel, thread_of, is_running, stamped, outputs_of, with_first, thread_after, with_sends, with_timers, Saved, saved, HasShape, Ending, Assignment, assignment, whole, consumed, begun, with_effects, written_with, due_with, result, concluded, served, IsEnd, IsEndOf}
 use Rattle.ink_base.specs.declared.event.Origin.TheVariants as origins
 use Rattle.task_run.specs.declared.ending.Ending.TheVariants as endings
 use Rattle.task_run.proofs.PipeWords.{written_in, taken_in, IsFirstItem, sends-written, sends-written_other, sends-taken, take-written, take-taken, take-taken_other}

@@ -1,12 +1,5 @@
 -- What of a thread beside its own words its commit changes.
-use Rattle.std.proofs.Common.{◌≡◌, ℕ, Bool, true, false, List, refl, ap, sym, subst, ◌||◌, Option, Some, None, if◌then◌else◌}
-use Rattle.ink_base.specs.declared.event.Event.{Event}
-use Rattle.task_isa.specs.Meaning.{RunEnd, Ended, Trapped, task_end}
-use Rattle.never_cut.specs.declared.thread_model.ThreadModel.{ThreadModel}
-use Rattle.never_cut.specs.State.{is_running}
-use Rattle.never_cut.specs.Commit.{is_of_queue, thread_after}
-use Rattle.task_run.specs.declared.ending.Ending.{Ending}
-use Rattle.task_run.specs.kept.Serving.{IsEndOf}
+use Rattle.task_run.proofs.Common.{◌≡◌, ℕ, Bool, true, false, List, refl, ap, sym, subst, ◌||◌, Option, Some, None, if◌then◌else◌, Event, RunEnd, Ended, Trapped, task_end, ThreadModel, is_running, is_of_queue, thread_after, Ending, IsEndOf}
 use Rattle.task_isa.specs.declared.outcome.Outcome.TheVariants as outcomes
 use Rattle.task_run.specs.declared.ending.Ending.TheVariants as endings
 use Rattle.task_run.proofs.Commits.{thread_by}

@@ -1,26 +1,5 @@
 -- What the registers of a task tell outlasts the accesses of sources and clock.
-use Rattle.std.proofs.Common.{◌≡◌, ℕ, ◌-◌, ◌/◌, List, length, ap, ◌∙◌, sym, inl, inr, subst, filter, ◌==◌, ◌&&◌, Some, None}
-use Rattle.std.specs.Int.{bit_at}
-use Rattle.std.proofs.Math.Path.{fun_ext}
-use Rattle.ink_base.specs.declared.output.Output.{Output}
-use Rattle.fram_words.specs.Places.{Commit, Page, Log, Ring, Ack, Memory}
-use Rattle.thread_state.specs.Pages.{place_in, working_mask, Buffer, Copying, Loading, Storing, IsCopied}
-use Rattle.task_isa.specs.declared.program.Program.{Program}
-use Rattle.prog_check.specs.Lookup.{thread_def, task_def, first_task}
-use Rattle.ink_layout.specs.declared.pick.Pick.{Pick}
-use Rattle.never_cut.specs.declared.model.Model.{Model}
-use Rattle.never_cut.specs.declared.pipe_model.PipeModel.{PipeModel}
-use Rattle.never_cut.specs.State.{thread_of, is_running}
-use Rattle.never_cut.specs.Commit.{rooms, outputs_of, is_overdue}
-use Rattle.never_cut.specs.Stands.{log_of, AreLogged}
-use Rattle.never_cut.specs.kept.Actors.{SamePrivate, Follows}
-use Rattle.never_cut.specs.declared.thread_model.ThreadModel.{ThreadModel}
-use Rattle.task_run.specs.declared.phase.Phase.{Phase}
-use Rattle.task_run.specs.declared.phase.Phase.TheVariants.{StoreAck, StoreEmpty, Over}
-use Rattle.task_run.specs.declared.machine.TaskMachine.{TaskMachine}
-use Rattle.task_run.specs.Machine.{Action, Put, Get, Make, action}
-use Rattle.task_run.specs.kept.Serving.{Assignment, assignment, rings_of, AreSent, Told, told, Progress, IsReady, Serving}
-use Rattle.task_run.specs.Knows.{Releasing, KnowsAt, EveryTaskOutlasts}
+use Rattle.task_run.proofs.Common.{◌≡◌, ℕ, ◌-◌, ◌/◌, List, length, ap, ◌∙◌, sym, inl, inr, subst, filter, ◌==◌, ◌&&◌, Some, None, bit_at, fun_ext, Output, Commit, Page, Log, Ring, Ack, Memory, place_in, working_mask, Buffer, Copying, Loading, Storing, IsCopied, Program, thread_def, task_def, first_task, Pick, Model, PipeModel, thread_of, is_running, rooms, outputs_of, is_overdue, log_of, AreLogged, SamePrivate, Follows, ThreadModel, Phase, StoreAck, StoreEmpty, Over, TaskMachine, Action, Put, Get, Make, action, Assignment, assignment, rings_of, AreSent, Told, told, Progress, IsReady, Serving, Releasing, KnowsAt, EveryTaskOutlasts}
 use Rattle.never_cut.proofs.Follows.{with_parts, follow_finished, follow_released, follow_calm, follow_finishing, follow_privately}
 use Rattle.never_cut.proofs.Picks.{picked_follows}
 use Rattle.task_run.proofs.Accesses.{progress_frame, sent_frame}

@@ -1,25 +1,6 @@
 -- A task sends to pipes that its thread writes, sets timers of its thread, and goes on with tasks of its thread.
-use Rattle.std.proofs.Common.{◌≡◌, ℕ, zero, suc, ◌<◌, true, false, List, [], ◌∷◌, ◌++◌, length, sym, inl, inr, subst, ◌==◌, nat_lt, Bool, if◌then◌else◌}
-use Rattle.std.proofs.lemmas.Bool.{cases_Bool, cases_lt}
-use Rattle.std.proofs.lemmas.List.{get_or_past}
-use Rattle.task_isa.specs.declared.instr.Instr.{Instr}
-use Rattle.task_isa.specs.declared.instr.Instr.TheVariants.{Divu, Remu, Send, Arm, Stop, Next, Done}
-use Rattle.task_isa.specs.declared.act.Act.{Act}
-use Rattle.task_isa.specs.declared.act.Act.TheVariants.{Sets, Goes, Loads, Saves, Puts, Sends, Arms, Stops, Continues, Ends, Traps}
-use Rattle.task_isa.specs.declared.program.Program.{Program}
-use Rattle.task_isa.specs.declared.program.Task.{Task}
-use Rattle.task_isa.specs.declared.sent.Sent.{Sent}
-use Rattle.task_isa.specs.declared.timer_set.TimerSet.{TimerSet}
-use Rattle.task_isa.specs.Acts.{Given, Cpu, reg, act_of}
-use Rattle.task_isa.specs.Meaning.{Effects, Config, Room, RunEnd, Ended, Trapped, run, execute, GoesOn, IsOver, HasTrapped, has_room, Stepped, task_end, no_effects, first_config}
-use Rattle.prog_check.specs.Lookup.{task_def, instr_at}
-use Rattle.prog_check.specs.Accepted.{IsAccepted, IsRightInstr, IsRightTask}
-use Rattle.ink_layout.specs.declared.pick.Pick.{Pick}
-use Rattle.never_cut.specs.declared.model.Model.{Model}
-use Rattle.never_cut.specs.Entries.{Readings}
-use Rattle.never_cut.specs.Sound.{IsSound}
-use Rattle.never_cut.specs.Stands.{Saved, saved}
-use Rattle.task_run.specs.kept.Serving.{Assignment, assignment, whole, end_of, effects_of, result}
+use Rattle.task_run.proofs.Common.{◌≡◌, ℕ, zero, suc, ◌<◌, true, false, List, [], ◌∷◌, ◌++◌, length, sym, inl, inr, subst, ◌==◌, nat_lt, Bool, if◌then◌else◌, cases_Bool, cases_lt, get_or_past, Instr, Divu, Remu, Send, Arm, Stop, Next, Done, Act, Sets, Goes, Loads, Saves, Puts, Sends, Arms, Stops, Continues, Ends, Traps, Program, Task, Sent, TimerSet, Given, Cpu, reg, Effects, Config, Room, RunEnd, Ended, Trapped, run, execute, GoesOn, IsOver, HasTrapped, has_room, Stepped, task_end, no_effects, first_config, task_def, instr_at, IsAccepted, IsRightInstr, IsRightTask, Pick, Model, Readings, IsSound, Saved, saved, Assignment, assignment, whole, end_of, effects_of, result}
+use Rattle.task_isa.specs.Acts.{act_of}
 use Rattle.task_isa.specs.declared.outcome.Outcome.TheVariants as outcomes
 use Rattle.task_run.proofs.Acts.{IsOwnTask, own_task}
 use Rattle.task_run.proofs.PipeWords.{IsOwnPipe, AreOwnSends}

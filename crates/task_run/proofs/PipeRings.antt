@@ -1,17 +1,5 @@
 -- The rings hold the items of the pipes after a commit.
-use Rattle.std.proofs.Common.{◌≡◌, ℕ, suc, ◌+◌, ◌<◌, Bool, true, false, List, [], ◌∷◌, ◌++◌, length, arith, refl, ap, ◌∙◌, sym, inl, inr, subst, length-set, ◌==◌, if◌then◌else◌, drop, slice_index, eq-eqb, ne_eqb, append-nil, append_assoc, get_or-set_same, get_or-set_other}
-use Rattle.std.proofs.lemmas.Bool.{cases_eq}
-use Rattle.ink_base.specs.declared.event.Origin.{Origin}
-use Rattle.event_pipe.specs.Ring.{ring_index}
-use Rattle.task_isa.specs.declared.program.Program.{Program}
-use Rattle.task_isa.specs.declared.sent.Sent.{Sent}
-use Rattle.prog_check.specs.Lookup.{pipe_def}
-use Rattle.never_cut.specs.declared.model.Model.{Model}
-use Rattle.never_cut.specs.declared.pipe_model.PipeModel.{PipeModel}
-use Rattle.never_cut.specs.State.{no_pipe}
-use Rattle.never_cut.specs.Commit.{taken_from, with_item, with_sends}
-use Rattle.never_cut.specs.Sound.{HasShape}
-use Rattle.task_run.specs.kept.Serving.{AreSent}
+use Rattle.task_run.proofs.Common.{◌≡◌, ℕ, suc, ◌+◌, ◌<◌, Bool, true, false, List, [], ◌∷◌, ◌++◌, length, arith, refl, ap, ◌∙◌, sym, inl, inr, subst, length-set, ◌==◌, if◌then◌else◌, drop, slice_index, eq-eqb, ne_eqb, append-nil, append_assoc, get_or-set_same, get_or-set_other, cases_eq, Origin, ring_index, Program, Sent, pipe_def, Model, PipeModel, no_pipe, taken_from, with_item, with_sends, HasShape, AreSent}
 use Rattle.ink_base.specs.declared.event.Origin.TheVariants as origins
 use Rattle.task_run.proofs.SentItems.{pipe_in, item_same, item_other}
 use Rattle.task_run.proofs.PipeWords.{sent-count}

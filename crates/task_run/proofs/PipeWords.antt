@@ -1,14 +1,5 @@
 -- What a thread's words say of the pipes, after items were sent and one was taken.
-use Rattle.std.proofs.Common.{◌≡◌, ◌≢◌, ℕ, ◌+◌, ◌<◌, Bool, true, false, List, [], ◌∷◌, ◌++◌, length, arith, refl, ap, ◌∙◌, sym, inl, inr, length-set, ◌==◌, ◌&&◌, nat_lt, if◌then◌else◌, drop, eq-eqb, ne_eqb, lt-ltb, get_or-set_same, get_or-set_other, length-append, length-drop}
-use Rattle.std.proofs.Math.Path.{fun_ext}
-use Rattle.std.proofs.lemmas.Bool.{cases_eq}
-use Rattle.task_isa.specs.declared.program.Program.{Program}
-use Rattle.task_isa.specs.declared.sent.Sent.{Sent}
-use Rattle.prog_check.specs.Lookup.{pipe_def}
-use Rattle.never_cut.specs.declared.pipe_model.PipeModel.{PipeModel}
-use Rattle.never_cut.specs.State.{no_pipe}
-use Rattle.never_cut.specs.Commit.{taken_from, with_item, with_sends}
-use Rattle.task_run.specs.kept.Serving.{changed, written_with}
+use Rattle.task_run.proofs.Common.{◌≡◌, ◌≢◌, ℕ, ◌+◌, ◌<◌, Bool, true, false, List, [], ◌∷◌, ◌++◌, length, arith, refl, ap, ◌∙◌, sym, inl, inr, length-set, ◌==◌, ◌&&◌, nat_lt, if◌then◌else◌, drop, eq-eqb, ne_eqb, lt-ltb, get_or-set_same, get_or-set_other, length-append, length-drop, fun_ext, cases_eq, Program, Sent, pipe_def, PipeModel, no_pipe, taken_from, with_item, with_sends, changed, written_with}
 use Rattle.ink_base.specs.declared.event.Origin.TheVariants as origins
 use Rattle.ink_base.specs.declared.ids.PipeId.{PipeId}
 use Rattle.task_run.proofs.SentItems.{pipe_in, changed_same, changed_other, item_same, item_other}

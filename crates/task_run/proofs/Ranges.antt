@@ -1,33 +1,5 @@
 -- The numbers of a task's registers are in their ranges.
-use Rattle.std.proofs.Common.{◌≡◌, ℕ, ◌+◌, ◌*◌, ◌-◌, ◌^◌, ◌<◌, ◌≤◌, false, List, length, get_or, arith, refl, ap, ◌∙◌, sym, subst, Some}
-use Rattle.std.proofs.lemmas.Bool.{false≢true}
-use Rattle.ink_base.specs.declared.ids.TaskId.{TaskId}
-use Rattle.fram_words.specs.Places.{Memory, answer}
-use Rattle.thread_state.specs.Pages.{Buffer, working}
-use Rattle.task_isa.specs.declared.program.Program.{Program}
-use Rattle.task_isa.specs.declared.sent.Sent.{Sent}
-use Rattle.task_isa.specs.Acts.{number_of}
-use Rattle.task_isa.specs.Meaning.{sent_to}
-use Rattle.prog_check.specs.Lookup.{thread_def, pipe_def}
-use Rattle.ink_layout.specs.declared.pick.Pick.{Pick}
-use Rattle.never_cut.specs.declared.model.Model.{Model}
-use Rattle.never_cut.specs.State.{thread_of, pipe_of}
-use Rattle.never_cut.specs.Commit.{task_at, rooms}
-use Rattle.never_cut.specs.Entries.{Readings}
-use Rattle.never_cut.specs.Stands.{Saved, saved}
-use Rattle.never_cut.specs.kept.Picked.{IsPicked}
-use Rattle.never_cut.specs.kept.Steps.{Background}
-use Rattle.never_cut.proofs.PickedEvents.{IsServable, picked_event}
-use Rattle.task_run.specs.declared.ending.Ending.{Ending}
-use Rattle.task_run.specs.declared.execution.Execution.{Execution}
-use Rattle.task_run.specs.declared.sending.Sending.{Sending}
-use Rattle.task_run.specs.declared.phase.Phase.{Phase}
-use Rattle.task_run.specs.declared.phase.Phase.TheVariants.{WriteFirst, WriteOrigin, WriteValue, WriteTaken, ReadPeriod, WriteDue, Resume, Fetch, ReadState, WriteState, ReadCount, StoreLog, WriteCount, LoadReader, LoadTaken, ReadWritten, StoreItem, WriteWritten, WriteArmed, WritePeriod, WriteStopped, WriteNext, WriteFinished, ReadTotal, WriteTotal, WriteStamp, StoreCommit, StoreAck, StoreEmpty, Over}
-use Rattle.task_run.specs.Endings.{total_word}
-use Rattle.task_run.specs.Machine.{want, is_over, execution_of}
-use Rattle.task_run.specs.Fits.{FitsExecution, FitsPhase, FitsWord, FitsTask}
-use Rattle.task_run.specs.kept.Serving.{assignment, total_of, told, RunningIn, SendingTo, Serving}
-use Rattle.task_run.specs.Knows.{Releasing, KnowsAt, EveryTaskFits}
+use Rattle.task_run.proofs.Common.{◌≡◌, ℕ, ◌+◌, ◌*◌, ◌-◌, ◌^◌, ◌<◌, ◌≤◌, false, List, length, get_or, arith, refl, ap, ◌∙◌, sym, subst, Some, false≢true, TaskId, Memory, answer, Buffer, working, Program, Sent, number_of, sent_to, thread_def, pipe_def, Pick, Model, thread_of, pipe_of, task_at, rooms, Readings, Saved, saved, IsPicked, Background, IsServable, picked_event, Ending, Execution, Sending, Phase, WriteFirst, WriteOrigin, WriteValue, WriteTaken, ReadPeriod, WriteDue, Resume, Fetch, ReadState, WriteState, ReadCount, StoreLog, WriteCount, LoadReader, LoadTaken, ReadWritten, StoreItem, WriteWritten, WriteArmed, WritePeriod, WriteStopped, WriteNext, WriteFinished, ReadTotal, WriteTotal, WriteStamp, StoreCommit, StoreAck, StoreEmpty, Over, total_word, want, is_over, execution_of, FitsExecution, FitsPhase, FitsWord, FitsTask, assignment, total_of, told, RunningIn, SendingTo, Serving, Releasing, KnowsAt, EveryTaskFits}
 use Rattle.fram_words.specs.Header as header
 use Rattle.never_cut.specs.Within.{Lasts}
 use Rattle.task_run.proofs.Words.{words-of_total, words-of_written, words-of_period}

@@ -1,28 +1,5 @@
 -- A running chain goes on with its task, or ends expired.
-use Rattle.std.proofs.Common.{◌≡◌, ℕ, Bool, true, false, refl, ap, ◌∙◌, sym, subst, inl, inr, arith, Option, Some, None, ◌&&◌, if◌then◌else◌}
-use Rattle.std.specs.Option.{ForSome}
-use Rattle.std.proofs.lemmas.Bool.{cases_Bool}
-use Rattle.ink_base.specs.declared.ids.TaskId.{TaskId}
-use Rattle.fram_words.specs.Places.{Code, Memory, store, answer}
-use Rattle.thread_state.specs.Pages.{place_in, working_mask, Buffer, put_access}
-use Rattle.task_isa.specs.declared.program.Program.{Program}
-use Rattle.task_isa.specs.Meaning.{Effects}
-use Rattle.prog_check.specs.Accepted.{IsAccepted}
-use Rattle.prog_check.specs.Lookup.{thread_def}
-use Rattle.ink_layout.specs.declared.pick.Pick.{Pick}
-use Rattle.never_cut.specs.declared.model.Model.{Model}
-use Rattle.never_cut.specs.declared.thread_model.ThreadModel.{ThreadModel}
-use Rattle.never_cut.specs.State.{thread_of, is_running}
-use Rattle.never_cut.specs.Commit.{is_overdue}
-use Rattle.never_cut.specs.Entries.{Readings}
-use Rattle.never_cut.specs.Sound.{IsSound}
-use Rattle.never_cut.specs.Stands.{Saved, saved, StandsPrivate}
-use Rattle.never_cut.specs.kept.Picked.{IsPicked}
-use Rattle.task_run.specs.declared.ending.Ending.{Ending}
-use Rattle.task_run.specs.declared.execution.Execution.{Execution}
-use Rattle.task_run.specs.declared.phase.Phase.TheVariants.{Resume, WriteNext}
-use Rattle.task_run.specs.declared.machine.TaskMachine.{TaskMachine}
-use Rattle.task_run.specs.kept.Serving.{Assignment, assignment, rested, Finishing, worked_in, IsEnd, IsReady, told, RunningIn, Serving}
+use Rattle.task_run.proofs.Common.{◌≡◌, ℕ, Bool, true, false, refl, ap, ◌∙◌, sym, subst, inl, inr, arith, Option, Some, None, ◌&&◌, if◌then◌else◌, ForSome, cases_Bool, TaskId, Code, Memory, store, answer, place_in, working_mask, Buffer, put_access, Program, Effects, IsAccepted, thread_def, Pick, Model, ThreadModel, thread_of, is_running, is_overdue, Readings, IsSound, Saved, saved, StandsPrivate, IsPicked, Ending, Execution, Resume, WriteNext, TaskMachine, Assignment, assignment, rested, Finishing, worked_in, IsEnd, IsReady, told, RunningIn, Serving}
 use Rattle.task_run.specs.declared.ending.Ending.TheVariants as endings
 use Rattle.task_run.specs.Machine as machine
 use Rattle.task_run.proofs.Accesses.{machine_at, Steps, put_step, holding_load, holding_put}

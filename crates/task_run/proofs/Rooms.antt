@@ -1,20 +1,5 @@
 -- The counts of a pipe within a run, and the room that they leave.
-use Rattle.std.proofs.Common.{◌≡◌, ◌≢◌, ℕ, ◌+◌, ◌-◌, ◌%◌, ◌<◌, ◌≤◌, true, List, [], ◌∷◌, ◌++◌, length, get_or, arith, refl, ap, ◌∙◌, sym, inl, inr, subst, nat_lt, eq-eqb, ne_eqb, ltb-true, ltb-false, lt-ltb, le-ltb}
-use Rattle.std.proofs.lemmas.Bool.{cases_Bool, cases_eq}
-use Rattle.std.proofs.lemmas.List.Sums.{sum_by_push}
-use Rattle.event_pipe.specs.Ring.{ring_index}
-use Rattle.task_isa.specs.declared.program.Program.{Program}
-use Rattle.task_isa.specs.declared.sent.Sent.{Sent}
-use Rattle.task_isa.specs.Meaning.{Room, sent_to, has_room}
-use Rattle.prog_check.specs.Lookup.{pipe_def}
-use Rattle.never_cut.specs.declared.model.Model.{Model}
-use Rattle.never_cut.specs.declared.pipe_model.PipeModel.{PipeModel}
-use Rattle.never_cut.specs.State.{pipe_of}
-use Rattle.never_cut.specs.Commit.{rooms, with_sends}
-use Rattle.never_cut.specs.Sound.{HasShape}
-use Rattle.never_cut.specs.Stands.{Saved, saved, written_word, taken_word}
-use Rattle.task_run.specs.declared.machine.TaskMachine.{TaskMachine}
-use Rattle.task_run.specs.kept.Serving.{begun, told, RunningIn}
+use Rattle.task_run.proofs.Common.{◌≡◌, ◌≢◌, ℕ, ◌+◌, ◌-◌, ◌%◌, ◌<◌, ◌≤◌, true, List, [], ◌∷◌, ◌++◌, length, get_or, arith, refl, ap, ◌∙◌, sym, inl, inr, subst, nat_lt, eq-eqb, ne_eqb, ltb-true, ltb-false, lt-ltb, le-ltb, cases_Bool, cases_eq, sum_by_push, ring_index, Program, Sent, Room, sent_to, has_room, pipe_def, Model, PipeModel, pipe_of, rooms, with_sends, HasShape, Saved, saved, written_word, taken_word, TaskMachine, begun, told, RunningIn}
 use Rattle.event_pipe.specs.Ring as by_counts
 use Rattle.push_core.proofs.Rings.{apart}
 use Rattle.task_run.proofs.Traps.{begun-keeps}

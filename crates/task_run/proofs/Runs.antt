@@ -1,15 +1,6 @@
 -- One instruction of a run.
-use Rattle.std.proofs.Common.{◌≡◌, ℕ, suc, ◌+◌, ◌-◌, ◌<◌, ◌≤◌, List, length, get_or, arith, refl, ap, ◌∙◌, sym, subst}
-use Rattle.task_isa.specs.declared.instr.Instr.{Instr}
-use Rattle.task_isa.specs.declared.act.Act.{Act}
-use Rattle.task_isa.specs.declared.outcome.TrapCode.{TrapCode}
-use Rattle.task_isa.specs.declared.sent.Sent.{Sent}
-use Rattle.task_isa.specs.Acts.{Given, Cpu, act_of}
-use Rattle.task_isa.specs.Meaning.{Effects, Config, Room, RunEnd, Ended, Trapped, Stepped, GoesOn, IsOver, HasTrapped, execute, run, task_end, sent_to, instr_at}
-use Rattle.never_cut.specs.Stands.{Saved}
-use Rattle.task_run.specs.declared.ending.Ending.{Ending}
-use Rattle.task_run.specs.Machine.{cpu_of, stepped}
-use Rattle.task_run.specs.kept.Serving.{whole, begun, with_effects, effects_of, result, config_of, Told, RunningIn, worked_in, Finishing, IsTrap, IsEndOf}
+use Rattle.task_run.proofs.Common.{◌≡◌, ℕ, suc, ◌+◌, ◌-◌, ◌<◌, ◌≤◌, List, length, get_or, arith, refl, ap, ◌∙◌, sym, subst, Instr, Act, TrapCode, Sent, Given, Cpu, act_of, Effects, Config, Room, RunEnd, Ended, Trapped, Stepped, GoesOn, IsOver, HasTrapped, execute, run, task_end, sent_to, Saved, Ending, cpu_of, stepped, whole, begun, with_effects, effects_of, result, config_of, Told, RunningIn, worked_in, Finishing, IsTrap, IsEndOf}
+use Rattle.task_isa.specs.Meaning.{instr_at}
 use Rattle.task_isa.specs.declared.outcome.Outcome.{Outcome}
 use Rattle.task_run.proofs.Traps.{Going, end-early}
 

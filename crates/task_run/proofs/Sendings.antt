@@ -1,32 +1,5 @@
 -- The accesses that send an item.
-use Rattle.std.proofs.Common.{◌≡◌, ℕ, ◌+◌, ◌-◌, ◌/◌, ◌<◌, ◌≤◌, true, [], ◌∷◌, ◌++◌, length, arith, refl, ap, ◌∙◌, sym, inl, inr, subst, ltb-true}
-use Rattle.std.proofs.lemmas.Bool.{cases_Bool}
-use Rattle.fram_words.specs.Places.{Commit, Ring, Memory, store, perform}
-use Rattle.fram_words.proofs.Frames.{store-same, store-other}
-use Rattle.event_pipe.specs.Ring.{ring_index}
-use Rattle.thread_state.specs.Pages.{place_in, working, working_mask, Buffer}
-use Rattle.thread_state.proofs.Pages.{is_dirty-true}
-use Rattle.task_isa.specs.declared.act.Act.TheVariants.{Sends}
-use Rattle.task_isa.specs.declared.program.Program.{Program}
-use Rattle.task_isa.specs.declared.sent.Sent.{Sent}
-use Rattle.task_isa.specs.Acts.{Cpu}
-use Rattle.task_isa.specs.Meaning.{Effects, advance_with, sent_to, has_room}
-use Rattle.prog_check.specs.Lookup.{pipe_def}
-use Rattle.prog_check.specs.Accepted.{IsAccepted}
-use Rattle.ink_layout.specs.declared.pick.Pick.{Pick}
-use Rattle.never_cut.specs.declared.model.Model.{Model}
-use Rattle.never_cut.specs.declared.pipe_model.PipeModel.{PipeModel}
-use Rattle.never_cut.specs.State.{pipe_of}
-use Rattle.never_cut.specs.Commit.{with_sends}
-use Rattle.never_cut.specs.Sound.{HasShape}
-use Rattle.never_cut.specs.Stands.{Saved, saved, StandsPrivate}
-use Rattle.task_run.specs.declared.ending.Ending.{Ending}
-use Rattle.task_run.specs.declared.execution.Execution.{Execution}
-use Rattle.task_run.specs.declared.sending.Sending.{Sending}
-use Rattle.task_run.specs.declared.phase.Phase.TheVariants.{LoadReader, LoadTaken, ReadWritten, StoreItem, WriteWritten}
-use Rattle.task_run.specs.declared.machine.TaskMachine.{TaskMachine}
-use Rattle.task_run.specs.Machine.{want, after_written, proceed, cpu_of}
-use Rattle.task_run.specs.kept.Serving.{assignment, begun, with_effects, changed, rings_of, Told, told, Serving}
+use Rattle.task_run.proofs.Common.{◌≡◌, ℕ, ◌+◌, ◌-◌, ◌/◌, ◌<◌, ◌≤◌, true, [], ◌∷◌, ◌++◌, length, arith, refl, ap, ◌∙◌, sym, inl, inr, subst, ltb-true, cases_Bool, Commit, Ring, Memory, store, perform, store-same, store-other, ring_index, place_in, working, working_mask, Buffer, is_dirty-true, Sends, Program, Sent, Cpu, Effects, advance_with, sent_to, has_room, pipe_def, IsAccepted, Pick, Model, PipeModel, pipe_of, with_sends, HasShape, Saved, saved, StandsPrivate, Ending, Execution, Sending, LoadReader, LoadTaken, ReadWritten, StoreItem, WriteWritten, TaskMachine, want, after_written, proceed, cpu_of, assignment, begun, with_effects, changed, rings_of, Told, told, Serving}
 use Rattle.fram_words.specs.Header as header
 use Rattle.event_pipe.specs.Ring as by_counts
 use Rattle.task_run.proofs.Accesses.{machine_at, Steps, picked_at, put_step, holding_load, holding_put, serving_at}

@@ -1,19 +1,5 @@
 -- The items that a task has sent, in its pipes, in the counts of its block, and in the rings.
-use Rattle.std.proofs.Common.{◌≡◌, ◌≢◌, ℕ, ◌+◌, ◌-◌, ◌<◌, ◌==◌, cond, Bool, List, [], ◌∷◌, ◌++◌, length, get_or, set, arith, refl, ap, ◌∙◌, sym, inl, inr, subst, eq-eqb, ne_eqb, length-append, length-set, get_or-set_same, get_or-set_other}
-use Rattle.std.specs.List.{enumerate_from}
-use Rattle.std.proofs.lemmas.Bool.{cases_eq}
-use Rattle.std.proofs.lemmas.List.{get_or_append_left, get_or_at, get_or-map}
-use Rattle.std.proofs.lemmas.List.Sums.{sum_by-cons}
-use Rattle.event_pipe.specs.Ring.{ring_index}
-use Rattle.task_isa.specs.declared.program.Program.{Program}
-use Rattle.task_isa.specs.declared.sent.Sent.{Sent}
-use Rattle.task_isa.specs.Meaning.{sent_to}
-use Rattle.prog_check.specs.Lookup.{pipe_def, no_pipe_def}
-use Rattle.never_cut.specs.declared.model.Model.{Model}
-use Rattle.never_cut.specs.declared.pipe_model.PipeModel.{PipeModel}
-use Rattle.never_cut.specs.State.{pipe_of, no_pipe}
-use Rattle.never_cut.specs.Commit.{room_in, rooms, with_item, with_sends}
-use Rattle.task_run.specs.kept.Serving.{changed, written_with, AreSent}
+use Rattle.task_run.proofs.Common.{◌≡◌, ◌≢◌, ℕ, ◌+◌, ◌-◌, ◌<◌, ◌==◌, cond, Bool, List, [], ◌∷◌, ◌++◌, length, get_or, set, arith, refl, ap, ◌∙◌, sym, inl, inr, subst, eq-eqb, ne_eqb, length-append, length-set, get_or-set_same, get_or-set_other, enumerate_from, cases_eq, get_or_append_left, get_or_at, get_or-map, sum_by-cons, ring_index, Program, Sent, sent_to, pipe_def, no_pipe_def, Model, PipeModel, pipe_of, no_pipe, room_in, rooms, with_item, with_sends, changed, written_with, AreSent}
 use Rattle.std.proofs.lemmas.List.FromFn.{length-enumerate_from, get_or-enumerate_from}
 
 -- a pipe by its number

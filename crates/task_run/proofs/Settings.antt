@@ -1,26 +1,5 @@
 -- The accesses that arm and stop a timer.
-use Rattle.std.proofs.Common.{◌≡◌, ℕ, ◌+◌, ◌*◌, ◌/◌, ◌<◌, ◌≤◌, List, [], ◌∷◌, ◌++◌, length, arith, refl, ap, ◌∙◌, sym, Some, None}
-use Rattle.fram_words.specs.Places.{Memory, store, perform}
-use Rattle.fram_words.specs.Held.{due_word}
-use Rattle.thread_state.specs.Pages.{place_in, working_mask, Buffer}
-use Rattle.thread_state.proofs.Pages.{is_dirty-true}
-use Rattle.task_isa.specs.declared.act.Act.TheVariants.{Arms, Stops}
-use Rattle.task_isa.specs.declared.program.Program.{Program}
-use Rattle.task_isa.specs.declared.timer_set.TimerSet.{TimerSet}
-use Rattle.task_isa.specs.Acts.{Cpu}
-use Rattle.task_isa.specs.Meaning.{Effects, advance}
-use Rattle.prog_check.specs.Accepted.{IsAccepted}
-use Rattle.ink_layout.specs.declared.pick.Pick.{Pick}
-use Rattle.never_cut.specs.declared.model.Model.{Model}
-use Rattle.never_cut.specs.Sound.{HasShape}
-use Rattle.never_cut.specs.Stands.{Saved, StandsPrivate}
-use Rattle.task_run.specs.declared.ending.Ending.{Ending}
-use Rattle.task_run.specs.declared.execution.Execution.{Execution}
-use Rattle.task_run.specs.declared.phase.Phase.TheVariants.{WriteArmed, WritePeriod, WriteStopped}
-use Rattle.task_run.specs.declared.machine.TaskMachine.{TaskMachine}
-use Rattle.task_run.specs.Machine.{want, proceed, cpu_of}
-use Rattle.task_run.specs.kept.Serving.{changed, due_with, period_by, period_with, with_due, with_effects, begun, Told, told, Serving}
-use Rattle.persist_timer.specs.Due.{armed}
+use Rattle.task_run.proofs.Common.{◌≡◌, ℕ, ◌+◌, ◌*◌, ◌/◌, ◌<◌, ◌≤◌, List, [], ◌∷◌, ◌++◌, length, arith, refl, ap, ◌∙◌, sym, Some, None, Memory, store, perform, due_word, place_in, working_mask, Buffer, is_dirty-true, Arms, Stops, Program, TimerSet, Cpu, Effects, advance, IsAccepted, Pick, Model, HasShape, Saved, StandsPrivate, Ending, Execution, WriteArmed, WritePeriod, WriteStopped, TaskMachine, want, proceed, cpu_of, changed, due_with, period_by, period_with, with_due, with_effects, begun, Told, told, Serving, armed}
 use Rattle.fram_words.specs.Header as header
 use Rattle.task_run.proofs.Accesses.{machine_at, Steps, put_step, holding_put, serving_at}
 use Rattle.task_run.proofs.Traps.{proceed_serving}

@@ -1,30 +1,5 @@
 -- The accesses of state numbers and of outputs.
-use Rattle.std.proofs.Common.{◌≡◌, ℕ, ◌+◌, ◌-◌, ◌*◌, ◌/◌, ◌%◌, ◌^◌, ◌<◌, ◌≤◌, false, List, [], ◌∷◌, ◌++◌, length, map, get_or, set, arith, refl, ap, ◌∙◌, sym, inl, inr, subst, nat_lt, ltb-true, ltb-false, le-ltb, lt-ltb, length-append, length-set, append_assoc}
-use Rattle.std.proofs.lemmas.Bool.{cases_Bool, cases_eq}
-use Rattle.std.proofs.lemmas.List.{length-map, map-append, get_or_append_left, get_or_at}
-use Rattle.ink_base.specs.declared.output.Output.{Output}
-use Rattle.fram_words.specs.Places.{Log, Memory, store, perform}
-use Rattle.fram_words.proofs.Frames.{store-same, store-other}
-use Rattle.fram_words.specs.Held.{output_word}
-use Rattle.thread_state.specs.Pages.{place_in, working, working_mask, Buffer, put}
-use Rattle.thread_state.proofs.Pages.{is_dirty-true}
-use Rattle.task_isa.specs.declared.act.Act.TheVariants.{Loads, Saves, Puts}
-use Rattle.task_isa.specs.declared.outcome.TrapCode.TheVariants.{LogFull}
-use Rattle.task_isa.specs.declared.program.Program.{Program}
-use Rattle.task_isa.specs.Acts.{Cpu}
-use Rattle.task_isa.specs.Meaning.{Effects, advance, advance_with}
-use Rattle.prog_check.specs.Lookup.{thread_def}
-use Rattle.ink_layout.specs.declared.pick.Pick.{Pick}
-use Rattle.never_cut.specs.declared.model.Model.{Model}
-use Rattle.never_cut.specs.Commit.{stamped}
-use Rattle.never_cut.specs.Sound.{HasShape}
-use Rattle.never_cut.specs.Stands.{Saved, saved, thread_words, log_of, AreLogged, StandsPrivate}
-use Rattle.task_run.specs.declared.ending.Ending.{Ending}
-use Rattle.task_run.specs.declared.execution.Execution.{Execution}
-use Rattle.task_run.specs.declared.phase.Phase.TheVariants.{ReadState, WriteState, ReadCount, StoreLog, WriteCount}
-use Rattle.task_run.specs.declared.machine.TaskMachine.{TaskMachine}
-use Rattle.task_run.specs.Machine.{want, after, proceed, cpu_of}
-use Rattle.task_run.specs.kept.Serving.{Assignment, assignment, begun, with_effects, Told, told, RunningIn, Serving}
+use Rattle.task_run.proofs.Common.{◌≡◌, ℕ, ◌+◌, ◌-◌, ◌*◌, ◌/◌, ◌%◌, ◌^◌, ◌<◌, ◌≤◌, false, List, [], ◌∷◌, ◌++◌, length, map, get_or, set, arith, refl, ap, ◌∙◌, sym, inl, inr, subst, nat_lt, ltb-true, ltb-false, le-ltb, lt-ltb, length-append, length-set, append_assoc, cases_Bool, cases_eq, length-map, map-append, get_or_append_left, get_or_at, Output, Log, Memory, store, perform, store-same, store-other, output_word, place_in, working, working_mask, Buffer, put, is_dirty-true, Loads, Saves, Puts, LogFull, Program, Cpu, Effects, advance, advance_with, thread_def, Pick, Model, stamped, HasShape, Saved, saved, thread_words, log_of, AreLogged, StandsPrivate, Ending, Execution, ReadState, WriteState, ReadCount, StoreLog, WriteCount, TaskMachine, want, after, proceed, cpu_of, Assignment, assignment, begun, with_effects, Told, told, RunningIn, Serving}
 use Rattle.fram_words.specs.Header as header
 use Rattle.task_run.proofs.Accesses.{machine_at, Steps, picked_at, put_step, holding_load, holding_put, serving_at}
 use Rattle.task_run.proofs.Traps.{begun-keeps, proceed_serving}

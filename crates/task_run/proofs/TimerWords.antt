@@ -1,16 +1,5 @@
 -- What a thread's words say of the timers, after timers were set and one was served.
-use Rattle.std.proofs.Common.{◌≡◌, ◌≢◌, ℕ, ◌+◌, ◌<◌, Bool, true, false, List, [], ◌∷◌, length, Option, Some, None, arith, refl, ap, ◌∙◌, sym, inl, inr, length-set, ◌==◌, ◌&&◌, nat_lt, if◌then◌else◌, slice_set, slice_index_or, eq-eqb, ne_eqb, lt-ltb, get_or-set_same, get_or-set_other}
-use Rattle.std.proofs.Math.Path.{fun_ext}
-use Rattle.std.proofs.lemmas.Bool.{cases_Bool, cases_eq}
-use Rattle.fram_words.specs.Held.{due_word}
-use Rattle.persist_timer.specs.Due.{after_service}
-use Rattle.task_isa.specs.declared.program.Program.{Program}
-use Rattle.task_isa.specs.declared.timer_set.TimerSet.{TimerSet}
-use Rattle.prog_check.specs.Lookup.{timer_def}
-use Rattle.never_cut.specs.declared.timer_model.TimerModel.{TimerModel}
-use Rattle.never_cut.specs.State.{no_timer}
-use Rattle.never_cut.specs.Commit.{moved_on, next_due, set_by, with_timers}
-use Rattle.task_run.specs.kept.Serving.{changed, due_with, period_by, period_with}
+use Rattle.task_run.proofs.Common.{◌≡◌, ◌≢◌, ℕ, ◌+◌, ◌<◌, Bool, true, false, List, [], ◌∷◌, length, Option, Some, None, arith, refl, ap, ◌∙◌, sym, inl, inr, length-set, ◌==◌, ◌&&◌, nat_lt, if◌then◌else◌, slice_set, slice_index_or, eq-eqb, ne_eqb, lt-ltb, get_or-set_same, get_or-set_other, fun_ext, cases_Bool, cases_eq, due_word, after_service, Program, TimerSet, timer_def, TimerModel, no_timer, moved_on, next_due, set_by, with_timers, changed, due_with, period_by, period_with}
 use Rattle.ink_base.specs.declared.event.Origin.TheVariants as origins
 use Rattle.ink_base.specs.declared.ids.TimerId.{TimerId}
 use Rattle.task_run.proofs.SentItems.{changed_same, changed_other}

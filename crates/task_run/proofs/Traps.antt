@@ -1,31 +1,5 @@
 -- A trap gives all writes up; an instruction that is done leads to the next one, or to the trap of the limit.
-use Rattle.std.proofs.Common.{◌≡◌, ℕ, ◌+◌, ◌-◌, ◌<◌, ◌≤◌, true, false, List, [], length, get_or, arith, refl, ap, ◌∙◌, sym, inl, inr, subst, ltb-true, ltb-false, append-nil, nat_lt, Option, Some, None}
-use Rattle.std.proofs.lemmas.Bool.{cases_Bool}
-use Rattle.ink_base.specs.declared.event.Event.{Event}
-use Rattle.ink_base.specs.declared.event.Origin.{Origin}
-use Rattle.ink_base.specs.declared.ids.TaskId.{TaskId}
-use Rattle.fram_words.specs.Places.{Commit, Memory}
-use Rattle.fram_words.specs.Held.{origin_word}
-use Rattle.thread_state.specs.Pages.{no_writes}
-use Rattle.task_isa.specs.declared.program.Program.{Program}
-use Rattle.task_isa.specs.declared.sent.Sent.{Sent}
-use Rattle.task_isa.specs.Acts.{Cpu}
-use Rattle.task_isa.specs.Meaning.{Effects, RunEnd, Ended, Trapped, run, task_end, no_effects, sent_to}
-use Rattle.prog_check.specs.Lookup.{task_def}
-use Rattle.ink_layout.specs.declared.pick.Pick.{Pick}
-use Rattle.never_cut.specs.declared.model.Model.{Model}
-use Rattle.never_cut.specs.declared.scan_model.ScanModel.{ScanModel}
-use Rattle.never_cut.specs.State.{thread_of}
-use Rattle.never_cut.specs.Pending.{pending_in}
-use Rattle.never_cut.specs.Stands.{Saved, saved, StandsPrivate, StandsThread}
-use Rattle.never_cut.specs.Sound.{HasShape}
-use Rattle.never_cut.specs.kept.Picked.{IsPicked}
-use Rattle.never_cut.proofs.Privates.{no_pages}
-use Rattle.task_run.specs.declared.ending.Ending.{Ending}
-use Rattle.task_run.specs.declared.phase.Phase.TheVariants.{WriteFirst, Fetch, WriteNext}
-use Rattle.task_run.specs.declared.machine.TaskMachine.{TaskMachine}
-use Rattle.task_run.specs.Machine.{trap, phase_again, proceed, stepped}
-use Rattle.task_run.specs.kept.Serving.{Assignment, assignment, whole, rings_of, AreSent, begun, consumed, with_effects, effects_of, result, worked, config_of, IsTrap, IsEnd, IsEndOf, Told, told, Again, Serving}
+use Rattle.task_run.proofs.Common.{◌≡◌, ℕ, ◌+◌, ◌-◌, ◌<◌, ◌≤◌, true, false, List, [], length, get_or, arith, refl, ap, ◌∙◌, sym, inl, inr, subst, ltb-true, ltb-false, append-nil, nat_lt, Option, Some, None, cases_Bool, Event, Origin, TaskId, Commit, Memory, origin_word, no_writes, Program, Sent, Cpu, Effects, RunEnd, Ended, Trapped, run, task_end, no_effects, sent_to, task_def, Pick, Model, ScanModel, thread_of, pending_in, Saved, saved, StandsPrivate, StandsThread, HasShape, IsPicked, no_pages, Ending, WriteFirst, Fetch, WriteNext, TaskMachine, trap, phase_again, proceed, stepped, Assignment, assignment, whole, rings_of, AreSent, begun, consumed, with_effects, effects_of, result, worked, config_of, IsTrap, IsEnd, IsEndOf, Told, told, Again, Serving}
 use Rattle.ink_base.specs.declared.event.Origin.TheVariants as origins
 use Rattle.task_run.specs.declared.ending.Ending.TheVariants as endings
 use Rattle.task_run.proofs.Accesses.{Holding, serving_at, unwritten}

@@ -1,14 +1,6 @@
 -- Writes and reads of the words of a thread's block.
-use Rattle.std.proofs.Common.{◌≡◌, ℕ, zero, suc, ◌+◌, ◌*◌, ◌-◌, ◌<◌, ◌≤◌, List, [], ◌∷◌, ◌++◌, length, get_or, set, arith, refl, ap, ◌∙◌, sym, inl, inr, eq-eqb, ne_eqb, get_or-set_same, get_or-set_other, get_or-append-add, Some}
-use Rattle.std.proofs.lemmas.Bool.{cases_eq}
-use Rattle.std.proofs.lemmas.List.{set-append_right}
-use Rattle.ink_base.specs.declared.output.Output.{Output}
-use Rattle.fram_words.specs.Held.{next_word}
-use Rattle.thread_state.specs.Pages.{put}
-use Rattle.never_cut.specs.Stands.{Saved, thread_words}
-use Rattle.task_run.specs.declared.ending.Ending.{Ending}
-use Rattle.task_run.specs.Endings.{total_word}
-use Rattle.task_run.specs.kept.Serving.{changed, with_due, rested, finish, total_of, with_total}
+use Rattle.task_run.proofs.Common.{◌≡◌, ℕ, zero, suc, ◌+◌, ◌*◌, ◌-◌, ◌<◌, ◌≤◌, List, [], ◌∷◌, ◌++◌, length, get_or, set, arith, refl, ap, ◌∙◌, sym, inl, inr, eq-eqb, ne_eqb, get_or-set_same, get_or-set_other, get_or-append-add, Some, cases_eq, set-append_right, Output, next_word, put, Saved, Ending, total_word, changed, with_due, rested, finish, total_of, with_total}
+use Rattle.never_cut.specs.Stands.{thread_words}
 use Rattle.fram_words.specs.Header as header
 use Rattle.never_cut.proofs.Blocks.{below_eight, header_list}
 use Rattle.task_run.specs.declared.ending.Ending.TheVariants as endings

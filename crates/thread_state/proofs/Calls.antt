@@ -1,13 +1,5 @@
 -- After any calls a read answers the last that was written or else the committed word, and the store of `commit` makes it current.
-use Rattle.std.proofs.Common.{◌≡◌, ℕ, ◌/◌, ◌<◌, ◌+◌, List, [], ◌∷◌, arith, refl, ◌∙◌, sym, subst, inl, inr, Option, Some, None, ◌==◌, eqb-true}
-use Rattle.std.specs.Int.{bit_at}
-use Rattle.std.proofs.lemmas.Bool.{eqb-false, cases_Bool}
-use Rattle.std.proofs.lemmas.Nat.Bits.{bit_at-lt}
-use Rattle.fram_words.specs.Places.{Place, Commit, Memory, perform, answer}
-use Rattle.thread_state.specs.declared.block.Block.{Block}
-use Rattle.thread_state.specs.Pages.{Buffer, Copying, Loading, Storing, committed, working, working_mask, no_writes, is_dirty, copy_access, IsCopied, IsOutside}
-use Rattle.thread_state.specs.Writes.{Writes, begun, prepared, taken}
-use Rattle.thread_state.specs.Calls.{Call, Prepare, Copy, Write, Discard, CanCall, CanCallAll, registers_after, memory_after, registers_after_all, memory_after_all, contents_after, last_written, IsLeft, OneStoreCommits}
+use Rattle.thread_state.proofs.Common.{◌≡◌, ℕ, ◌/◌, ◌<◌, ◌+◌, List, [], ◌∷◌, arith, refl, ◌∙◌, sym, subst, inl, inr, Option, Some, None, ◌==◌, eqb-true, bit_at, eqb-false, cases_Bool, bit_at-lt, Place, Commit, Memory, perform, answer, Block, Buffer, Copying, Loading, Storing, committed, working, working_mask, no_writes, is_dirty, copy_access, IsCopied, IsOutside, Writes, begun, prepared, taken, Call, Prepare, Copy, Write, Discard, CanCall, CanCallAll, registers_after, memory_after, registers_after_all, memory_after_all, contents_after, last_written, IsLeft, OneStoreCommits}
 use Rattle.thread_state.proofs.Pages.{copy_only, copy_committed, copy_working, agree_more, put_committed, put_working, dirty_put_only, no_writes_words, commit_committed}
 
 -- the registers know how far the copying is

@@ -1,3 +1,4 @@
+mod Common
 pub mod Pages
 pub mod Masks
 pub mod Calls

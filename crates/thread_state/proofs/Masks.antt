@@ -1,13 +1,6 @@
 -- The masks of a block have a bit for each page.
-use Rattle.std.proofs.Common.{ℕ, ◌^◌, ◌<◌, bit_or, inl, inr}
-use Rattle.std.specs.Prelude.{Some, None, ◌==◌}
-use Rattle.std.proofs.lemmas.Bool.{cases_Bool}
-use Rattle.std.proofs.lemmas.Nat.{or_lt}
+use Rattle.thread_state.proofs.Common.{ℕ, ◌^◌, ◌<◌, bit_or, inl, inr, Some, None, ◌==◌, cases_Bool, or_lt, Block, IsCommitWord, pages_of, Buffer, Copying, Loading, Storing, after_copy, IsKept}
 use Rattle.std.proofs.Math.Pow.{pow-lt}
-use Rattle.thread_state.specs.declared.block.Block.{Block}
-use Rattle.thread_state.specs.Blocks.{IsCommitWord, pages_of}
-use Rattle.thread_state.specs.Pages.{Buffer, Copying, Loading, Storing, after_copy}
-use Rattle.thread_state.specs.Writes.{IsKept}
 
 -- a page of the block may be marked dirty
 marked_allowed : (block : Block) (dirty page : ℕ) → IsCommitWord block dirty → page < pages_of block →

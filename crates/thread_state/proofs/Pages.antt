@@ -1,12 +1,6 @@
 -- What the accesses of a thread's writes do to the committed and the working copy.
-use Rattle.std.proofs.Common.{◌≡◌, ◌≢◌, ℕ, ◌+◌, ◌-◌, ◌/◌, ◌%◌, ◌^◌, ◌<◌, true, false, bit_or, bit_xor, arith, refl, ap, ◌∙◌, sym, inl, inr}
-use Rattle.std.specs.Int.{bit_at}
-use Rattle.std.specs.Prelude.{◌==◌}
-use Rattle.std.proofs.lemmas.Bool.{eqb-true, eqb-false, eq-eqb, ne_eqb, cases_Bool, cases_eq}
-use Rattle.std.proofs.lemmas.Nat.Bits.{bit_at_xor, bit_at_or, bit_at-pow_same, bit_at-pow_other, bit_at-lt, bit_at-zero}
-use Rattle.fram_words.specs.Places.{Place, Commit, Page, Memory, store, perform, answer}
+use Rattle.thread_state.proofs.Common.{◌≡◌, ◌≢◌, ℕ, ◌+◌, ◌-◌, ◌/◌, ◌%◌, ◌^◌, ◌<◌, true, false, bit_or, bit_xor, arith, refl, ap, ◌∙◌, sym, inl, inr, bit_at, ◌==◌, eqb-true, eqb-false, eq-eqb, ne_eqb, cases_Bool, cases_eq, bit_at_xor, bit_at_or, bit_at-pow_same, bit_at-pow_other, bit_at-lt, bit_at-zero, Place, Commit, Page, Memory, store, perform, answer, place_in, word_in, committed, Copying, Loading, Storing, Buffer, no_writes, is_dirty, working_mask, working, copy_access, after_copy, AgreeBelow, IsCopied, put, IsOutside, IsUnderWay}
 use Rattle.fram_words.proofs.Frames.{store-same, store-other}
-use Rattle.thread_state.specs.Pages.{place_in, word_in, committed, Copying, Loading, Storing, Buffer, no_writes, is_dirty, working_mask, working, copy_access, after_copy, AgreeBelow, IsCopied, put, IsOutside, IsUnderWay}
 
 -- a store in a copy that a mask does not name changes no word of that mask
 pub word_in-other_copy : (m : Memory) (t mask p c k v w : ℕ) → c ≢ bit_at mask p → word_in (store m (Page t p c k) v) t mask w ≡ word_in m t mask w

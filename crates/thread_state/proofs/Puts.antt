@@ -1,13 +1,5 @@
 -- A put of a word is the calls that make its page ready, copy it and write.
-use Rattle.std.proofs.Common.{◌≡◌, ℕ, zero, suc, ◌+◌, ◌/◌, ◌^◌, ◌<◌, Bool, true, false, cond, bit_or, List, [], ◌∷◌, ◌++◌, arith, refl, ap, ◌∙◌, sym, subst, inl, inr}
-use Rattle.std.specs.Prelude.{Option, Some, None, ◌==◌, not, replicate, IsNone}
-use Rattle.std.specs.Int.{bit_at}
-use Rattle.std.proofs.lemmas.Bool.{eqb-true, eqb-false, eq-eqb, cases_Bool}
-use Rattle.fram_words.specs.Places.{Commit, Memory, perform, answer}
-use Rattle.thread_state.specs.declared.block.Block.{Block}
-use Rattle.thread_state.specs.Pages.{Buffer, Copying, Loading, Storing, committed, is_dirty, copy_access, write_access, put_access, after_copy, put}
-use Rattle.thread_state.specs.Writes.{Writes, begun, prepared, IsAtRest}
-use Rattle.thread_state.specs.Calls.{Call, Prepare, Copy, Write, CanCallAll, memory_after_all, registers_after_all, last_written, IsLeft, resting}
+use Rattle.thread_state.proofs.Common.{◌≡◌, ℕ, zero, suc, ◌+◌, ◌/◌, ◌^◌, ◌<◌, Bool, true, false, cond, bit_or, List, [], ◌∷◌, ◌++◌, arith, refl, ap, ◌∙◌, sym, subst, inl, inr, Option, Some, None, ◌==◌, not, replicate, IsNone, bit_at, eqb-true, eqb-false, eq-eqb, cases_Bool, Commit, Memory, perform, answer, Block, Buffer, Copying, Loading, Storing, committed, is_dirty, copy_access, write_access, put_access, after_copy, put, Writes, begun, prepared, IsAtRest, Call, Prepare, Copy, Write, CanCallAll, memory_after_all, registers_after_all, last_written, IsLeft, resting}
 use Rattle.thread_state.specs.Puts.{Written, put_taken, put_by, put_whole, calls_of_put, IsPut, PutsAreCalls}
 use Rattle.thread_state.proofs.Pages.{marked_same}
 use Rattle.thread_state.proofs.Calls.{IsGoing, Goes, begun_goes, calls_go, calls_leave}

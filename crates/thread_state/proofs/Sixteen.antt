@@ -1,10 +1,5 @@
 -- A clean page is copied by sixteen accesses.
-use Rattle.std.proofs.Common.{◌≡◌, ℕ, ◌+◌, ◌-◌, ◌*◌, ◌^◌, ◌<◌, false, bit_or, List, [], ◌∷◌, length, arith, refl, inl, inr, Some, ◌==◌, IsSome, eqb-true, ne_eqb}
-use Rattle.std.proofs.lemmas.Bool.{eqb-false, cases_Bool}
-use Rattle.thread_state.specs.declared.block.Block.{Block}
-use Rattle.thread_state.specs.Pages.{Copying, Loading, Storing, is_dirty}
-use Rattle.thread_state.specs.Writes.{Writes}
-use Rattle.thread_state.specs.Calls.{taken_all, resting, SixteenCopy}
+use Rattle.thread_state.proofs.Common.{◌≡◌, ℕ, ◌+◌, ◌-◌, ◌*◌, ◌^◌, ◌<◌, false, bit_or, List, [], ◌∷◌, length, arith, refl, inl, inr, Some, ◌==◌, IsSome, eqb-true, ne_eqb, eqb-false, cases_Bool, Block, Copying, Loading, Storing, is_dirty, Writes, taken_all, resting, SixteenCopy}
 
 -- a copying under way
 abbrev pub under : Block → ℕ → ℕ → ℕ → Copying → Writes

@@ -1,4 +1,4 @@
-use Rattle.std.proofs.Common.{suc}
+use Rattle.source_laws.proofs.Common.{suc}
 use Rattle.source_laws.proofs.Runs.{start_first, kept_run, tells}
 use Rattle.source_laws.proofs.Steps.{source_step}
 use Rattle.source_laws.proofs.Journals.{settled_in_order}

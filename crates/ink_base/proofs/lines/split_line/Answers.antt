@@ -1,4 +1,4 @@
-use Rattle.std.proofs.Common.{get_or, arith}
+use Rattle.ink_base.proofs.Common.{get_or, arith}
 use Rattle.ink_base.proofs.Grouped.{cut, some_prefix, line_prefix_le}
 use Rattle.ink_base.proofs.Suffix.{IsSuffix-drop}
 use Rattle.ink_base.proofs.lines.split_line.Goals as goal

@@ -1,5 +1,4 @@
-use Rattle.std.proofs.Common.{arith}
-use Rattle.std.proofs.lemmas.List.{at_drop_all}
+use Rattle.ink_base.proofs.Common.{arith, at_drop_all}
 use Rattle.ink_base.proofs.Count.{more_lines, more_lines-is}
 use Rattle.ink_base.proofs.split.count_lines.Goals as goal
 

@@ -1,4 +1,4 @@
-use Rattle.std.proofs.Common.{◌≡◌, ◌+◌, ◌≤◌, true, drop}
+use Rattle.ink_base.proofs.Common.{◌≡◌, ◌+◌, ◌≤◌, true, drop}
 use Rattle.ink_base.proofs.Count.{more_lines}
 use Rattle.ink_base.proofs.split.count_lines.Given as goal
 

@@ -1,4 +1,4 @@
-use Rattle.std.proofs.Common.{◌≡◌, ◌++◌, length, get_or, refl, sym, arith, eq-eqb, ne_eqb, append-nil}
+use Rattle.ink_base.proofs.Common.{◌≡◌, ◌++◌, length, get_or, refl, sym, arith, eq-eqb, ne_eqb, append-nil}
 use Rattle.ink_base.proofs.Loop.{starts, steps, ends, ends_stand, closing, number_after}
 use Rattle.ink_base.proofs.split.words.Goals as goal
 use Rattle.ink_base.proofs.split.words.Goals.{in-Some+in_ok-push, in_default, then-b-eq10, else-b-eq10, in-Some-closed+in_ok-push-2, in_default-closed}

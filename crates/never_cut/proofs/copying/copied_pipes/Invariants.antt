@@ -1,4 +1,4 @@
-use Rattle.std.proofs.Common.{◌≡◌, take}
+use Rattle.never_cut.proofs.Common.{◌≡◌, take}
 use Rattle.never_cut.proofs.copying.copied_pipes.Given as goal
 
 abbrev pub invariant-loop-pipe : goal.invariant-loop-pipe

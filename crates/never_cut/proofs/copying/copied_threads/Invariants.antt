@@ -1,4 +1,4 @@
-use Rattle.std.proofs.Common.{◌≡◌, take}
+use Rattle.never_cut.proofs.Common.{◌≡◌, take}
 use Rattle.never_cut.proofs.copying.copied_threads.Given as goal
 
 abbrev pub invariant-loop-thread : goal.invariant-loop-thread

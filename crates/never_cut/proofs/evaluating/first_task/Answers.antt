@@ -1,5 +1,4 @@
-use Rattle.std.proofs.Common.{◌≡◌, rules, arith}
-use Rattle.prog_check.specs.Lookup.{first_task}
+use Rattle.never_cut.proofs.Common.{◌≡◌, rules, arith, first_task}
 use Rattle.never_cut.proofs.evaluating.first_task.Goals as goal
 
 pub returns-clause-there : goal.returns-clause-there

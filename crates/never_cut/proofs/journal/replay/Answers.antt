@@ -1,7 +1,4 @@
-use Rattle.std.proofs.Common.{sym, subst}
-use Rattle.prog_check.specs.Accepted.{IsAccepted}
-use Rattle.never_cut.specs.Start.{CanStart}
-use Rattle.never_cut.specs.State.{open_model}
+use Rattle.never_cut.proofs.Common.{sym, subst, IsAccepted, CanStart, open_model}
 use Rattle.never_cut.proofs.Starts.{open_starts}
 use Rattle.never_cut.proofs.journal.replay.Goals as goal
 

@@ -1,7 +1,4 @@
-use Rattle.std.proofs.Common.{sym, subst}
-use Rattle.prog_check.specs.Accepted.{IsAccepted}
-use Rattle.never_cut.specs.Replaying.{model_of}
-use Rattle.never_cut.specs.Start.{CanStart}
+use Rattle.never_cut.proofs.Common.{sym, subst, IsAccepted, model_of, CanStart}
 use Rattle.never_cut.specs.Replay.{TellsEntry}
 use Rattle.never_cut.proofs.Replays.{replays_none, replays_more, replayed}
 use Rattle.never_cut.proofs.Settled.{readings_in_order}

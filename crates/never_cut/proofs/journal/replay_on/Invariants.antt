@@ -1,4 +1,4 @@
-use Rattle.never_cut.specs.Replaying.{model_of}
+use Rattle.never_cut.proofs.Common.{model_of}
 use Rattle.never_cut.proofs.Replays.{Replays}
 use Rattle.never_cut.proofs.journal.replay_on.Given as goal
 

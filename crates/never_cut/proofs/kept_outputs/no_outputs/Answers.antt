@@ -1,4 +1,4 @@
-use Rattle.std.proofs.lemmas.List.{get_or-replicate}
+use Rattle.never_cut.proofs.Common.{get_or-replicate}
 use Rattle.never_cut.proofs.kept_outputs.no_outputs.Goals as goal
 
 pub invariant_of-result : goal.invariant_of-result

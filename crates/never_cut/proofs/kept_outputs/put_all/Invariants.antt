@@ -1,5 +1,4 @@
-use Rattle.std.proofs.Common.{◌≡◌, ◌++◌, take}
-use Rattle.never_cut.specs.Outputs.{stamped}
+use Rattle.never_cut.proofs.Common.{◌≡◌, ◌++◌, take, stamped}
 use Rattle.never_cut.proofs.kept_outputs.put_all.Given as goal
 
 abbrev pub invariant-loop-value : goal.invariant-loop-value

@@ -1,4 +1,4 @@
-use Rattle.std.proofs.Common.{arith}
+use Rattle.never_cut.proofs.Common.{arith}
 use Rattle.never_cut.proofs.Counted.{length-outputs_in}
 use Rattle.never_cut.proofs.kept_outputs.put_one.Goals as goal
 

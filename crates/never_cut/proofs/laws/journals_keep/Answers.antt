@@ -1,5 +1,5 @@
 -- The laws of journals, from the lemmas on each of their entries.
-use Rattle.never_cut.specs.Reached.{EveryJournalTells}
+use Rattle.never_cut.proofs.Common.{EveryJournalTells}
 use Rattle.never_cut.proofs.Follows.{other_follows}
 use Rattle.never_cut.proofs.Served.{sound_turns, each_event_once}
 use Rattle.never_cut.proofs.Settled.{readings_in_order}

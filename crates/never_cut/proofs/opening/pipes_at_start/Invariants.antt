@@ -1,5 +1,4 @@
-use Rattle.std.proofs.Common.{◌≡◌, map, take}
-use Rattle.never_cut.specs.State.{open_pipe}
+use Rattle.never_cut.proofs.Common.{◌≡◌, map, take, open_pipe}
 use Rattle.never_cut.proofs.opening.pipes_at_start.Given as goal
 
 abbrev pub invariant-loop-pipe : goal.invariant-loop-pipe

@@ -1,5 +1,4 @@
-use Rattle.std.proofs.Common.{◌≡◌, map, take}
-use Rattle.never_cut.specs.State.{open_thread}
+use Rattle.never_cut.proofs.Common.{◌≡◌, map, take, open_thread}
 use Rattle.never_cut.proofs.opening.threads_at_start.Given as goal
 
 abbrev pub invariant-loop-thread : goal.invariant-loop-thread

@@ -1,5 +1,4 @@
-use Rattle.std.proofs.Common.{◌≡◌, drop}
-use Rattle.never_cut.specs.Commit.{with_sends}
+use Rattle.never_cut.proofs.Common.{◌≡◌, drop, with_sends}
 use Rattle.never_cut.proofs.parts.put_sends.Given as goal
 
 abbrev pub invariant-loop-sent : goal.invariant-loop-sent

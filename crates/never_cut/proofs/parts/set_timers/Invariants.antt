@@ -1,5 +1,4 @@
-use Rattle.std.proofs.Common.{◌≡◌, drop}
-use Rattle.never_cut.specs.Commit.{with_timers}
+use Rattle.never_cut.proofs.Common.{◌≡◌, drop, with_timers}
 use Rattle.never_cut.proofs.parts.set_timers.Given as goal
 
 abbrev pub invariant-loop-setting : goal.invariant-loop-setting

@@ -1,6 +1,4 @@
-use Rattle.std.proofs.Common.{arith}
-use Rattle.power_trace.specs.Power.{item_in}
-use Rattle.ink_text.proofs.Words.{word_more, word_fails, words_end}
+use Rattle.power_trace.proofs.Common.{arith, item_in, word_more, word_fails, words_end}
 use Rattle.power_trace.proofs.charges.add_items.Goals as goal
 
 pub returns-in-Err : goal.returns-in-Err

@@ -1,5 +1,5 @@
 -- One more draw.
-use Rattle.std.proofs.Common.{refl, ◌∙◌}
+use Rattle.power_trace.proofs.Common.{refl, ◌∙◌}
 use Rattle.power_trace.specs.Soak.{state_after, draws}
 use Rattle.power_trace.proofs.Drawn.{state_next, draws_more}
 use Rattle.power_trace.proofs.generator.drawn_readings.Goals as goal

@@ -1,5 +1,4 @@
-use Rattle.std.proofs.Common.{◌≡◌}
-use Rattle.power_trace.specs.Soak.{state_after, draws}
+use Rattle.power_trace.proofs.Common.{◌≡◌, state_after, draws}
 use Rattle.power_trace.proofs.generator.drawn_readings.Given as goal
 
 abbrev pub invariant-loop-i : goal.invariant-loop-i

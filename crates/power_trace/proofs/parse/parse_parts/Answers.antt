@@ -1,9 +1,6 @@
 -- Each section keeps its limits, and the check the program's; each charge has its line.
-use Rattle.std.proofs.Common.{length, sym, ap, ◌∙◌}
-use Rattle.job_parts.specs.Job.{JobParts}
+use Rattle.power_trace.proofs.Common.{length, sym, ap, ◌∙◌, JobParts}
 use Rattle.power_trace.proofs.Kept.{sensors_keep}
-use Rattle.std.proofs.Common.{length, sym, ap, ◌∙◌}
-use Rattle.job_parts.specs.Job.{JobParts}
 use Rattle.power_trace.proofs.KeptCharges.{power_keep}
 use Rattle.power_trace.proofs.parse.parse_parts.Goals as goal
 

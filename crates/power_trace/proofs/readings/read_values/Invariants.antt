@@ -1,7 +1,4 @@
-use Rattle.std.proofs.Common.{◌≡◌, drop}
-use Rattle.ink_base.specs.Checks.{words_of}
-use Rattle.ink_text.specs.Words.{words_in}
-use Rattle.power_trace.specs.Sensors.{value_in}
+use Rattle.power_trace.proofs.Common.{◌≡◌, drop, words_of, words_in, value_in}
 use Rattle.power_trace.proofs.readings.read_values.Given as goal
 
 abbrev pub invariant-loop-token : goal.invariant-loop-token

@@ -1,5 +1,4 @@
-use Rattle.std.proofs.Common.{arith}
-use Rattle.ink_base.proofs.Sizes.{count_le, tokens_le}
+use Rattle.power_trace.proofs.Common.{arith, count_le, tokens_le}
 use Rattle.power_trace.proofs.sensors.read_sensors.Goals as goal
 
 pub sensors-requires : goal.sensors-requires

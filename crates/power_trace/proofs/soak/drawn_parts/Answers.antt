@@ -1,5 +1,5 @@
 -- The draws of the second source begin behind those of the first, and those of the charges behind both.
-use Rattle.std.proofs.Common.{◌≡◌, ◌+◌, ◌*◌, [], ◌∷◌, ◌++◌, List, refl, ◌∙◌, arith}
+use Rattle.power_trace.proofs.Common.{◌≡◌, ◌+◌, ◌*◌, [], ◌∷◌, ◌++◌, List, refl, ◌∙◌, arith}
 use Rattle.power_trace.specs.Soak.{drawn_charges}
 use Rattle.power_trace.proofs.Drawn.{state_more, draws_behind, charges_more}
 use Rattle.power_trace.proofs.soak.drawn_parts.Goals as goal

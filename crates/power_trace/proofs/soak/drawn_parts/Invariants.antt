@@ -1,5 +1,4 @@
-use Rattle.std.proofs.Common.{◌≡◌, ◌+◌, ◌*◌}
-use Rattle.power_trace.specs.Soak.{state_after, drawn_charges}
+use Rattle.power_trace.proofs.Common.{◌≡◌, ◌+◌, ◌*◌, state_after, drawn_charges}
 use Rattle.power_trace.proofs.soak.drawn_parts.Given as goal
 
 abbrev pub invariant-loop-i : goal.invariant-loop-i

@@ -1,6 +1,5 @@
 -- What the loop has computed is the thread of the greatest priority below the bound.
-use Rattle.std.proofs.Common.{◌≡◌, length, sym, ap, ◌∙◌, subst, arith}
-use Rattle.priority_sched.specs.Order.{next_among, IsHighest}
+use Rattle.priority_sched.proofs.Common.{◌≡◌, length, sym, ap, ◌∙◌, subst, arith, next_among, IsHighest}
 use Rattle.priority_sched.proofs.Orders.{next_is_highest}
 use Rattle.priority_sched.proofs.order.next_below.Goals as goal
 

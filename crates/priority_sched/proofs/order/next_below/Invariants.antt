@@ -1,6 +1,4 @@
-use Rattle.std.proofs.Common.{◌≡◌, ◌<◌, length}
-use Rattle.std.specs.Option.{ForSome}
-use Rattle.priority_sched.specs.Order.{next_among}
+use Rattle.priority_sched.proofs.Common.{◌≡◌, ◌<◌, length, ForSome, next_among}
 use Rattle.priority_sched.proofs.order.next_below.Given as goal
 
 abbrev pub invariant-loop-n : goal.invariant-loop-n

@@ -1,5 +1,4 @@
-use Rattle.std.proofs.Common.{length, ◌∙◌, sym, arith}
-use Rattle.priority_sched.specs.Scan.{is_reader}
+use Rattle.priority_sched.proofs.Common.{length, ◌∙◌, sym, arith, is_reader}
 use Rattle.priority_sched.proofs.Searches.{search_ends, search_goes_on}
 use Rattle.priority_sched.proofs.pipes.next_pipe.Goals as goal
 

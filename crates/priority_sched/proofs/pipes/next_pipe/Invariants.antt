@@ -1,6 +1,4 @@
-use Rattle.std.proofs.Common.{◌≡◌, ◌-◌, length}
-use Rattle.never_cut.specs.Pending.{first_number}
-use Rattle.priority_sched.specs.Scan.{is_reader}
+use Rattle.priority_sched.proofs.Common.{◌≡◌, ◌-◌, length, first_number, is_reader}
 use Rattle.priority_sched.proofs.pipes.next_pipe.Given as goal
 
 -- none below `q` will do

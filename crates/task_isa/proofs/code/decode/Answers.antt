@@ -1,7 +1,5 @@
 -- What is decoded has the word, and where nothing is, no instruction has it.
-use Rattle.std.proofs.Common.{subst, sym, ◌≡◌, ◌≢◌, Option, IfSome, IfNone}
-use Rattle.task_isa.specs.declared.instr.Instr.{Instr}
-use Rattle.task_isa.specs.Code.{word_of_instr, IsInstr}
+use Rattle.task_isa.proofs.Common.{subst, sym, ◌≡◌, ◌≢◌, Option, IfSome, IfNone, Instr, word_of_instr, IsInstr}
 use Rattle.task_isa.proofs.Codes.{decoded-some, decoded-none}
 use Rattle.task_isa.proofs.code.decode.Goals as goal
 

@@ -1,6 +1,5 @@
 -- Decoding finds the instruction again.
-use Rattle.std.proofs.Common.{subst, sym, ◌≡◌, ℕ, Some}
-use Rattle.task_isa.specs.Code.{decoded}
+use Rattle.task_isa.proofs.Common.{subst, sym, ◌≡◌, ℕ, Some, decoded}
 use Rattle.task_isa.proofs.Codes.{decoded-word}
 use Rattle.task_isa.proofs.code.encode.Goals as goal
 

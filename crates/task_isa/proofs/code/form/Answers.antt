@@ -1,5 +1,5 @@
 -- No opcode is above 29.
-use Rattle.std.proofs.Common.{sym, arith}
+use Rattle.task_isa.proofs.Common.{sym, arith}
 use Rattle.task_isa.proofs.Codes.{form_of_above}
 use Rattle.task_isa.proofs.code.form.Goals as goal
 

@@ -1,4 +1,4 @@
-use Rattle.std.proofs.Common.{◌≡◌, suc, ◌-◌, ◌∙◌, arith}
+use Rattle.task_isa.proofs.Common.{◌≡◌, suc, ◌-◌, ◌∙◌, arith}
 use Rattle.std.proofs.lemmas.Result.{IfOk-weaker}
 use Rattle.task_isa.proofs.Runs.{has_trapped, has_no_more}
 use Rattle.task_isa.proofs.evaluation.eval_code.Goals as goal

@@ -1,8 +1,5 @@
 -- A label whose name is new is none of the task's.
-use Rattle.std.proofs.Common.{◌≡◌, ℕ, true, false, Option, Some, None, Ok, refl, sym, ap, ◌∙◌, inl, inr}
-use Rattle.std.specs.Option.{is_some}
-use Rattle.std.proofs.lemmas.Bool.{cases_Bool}
-use Rattle.ink_base.specs.Lines.{Word}
+use Rattle.task_lines.proofs.Common.{◌≡◌, ℕ, true, false, Option, Some, None, Ok, refl, sym, ap, ◌∙◌, inl, inr, is_some, cases_Bool, Word}
 use Rattle.task_isa.specs.Names.{is_name}
 use Rattle.task_lines.specs.Named.{fresh_of}
 use Rattle.task_lines.proofs.task.read_label.Goals as goal

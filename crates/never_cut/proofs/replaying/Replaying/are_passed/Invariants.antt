@@ -1,7 +1,4 @@
-use Rattle.std.proofs.Common.{ℕ, ◌<◌}
-use Rattle.prog_check.specs.Lookup.{thread_def}
-use Rattle.never_cut.specs.Entries.{IsPassed}
-use Rattle.never_cut.specs.Replaying.{model_of}
+use Rattle.never_cut.proofs.Common.{ℕ, ◌<◌, thread_def, IsPassed, model_of}
 use Rattle.never_cut.proofs.replaying.Replaying.are_passed.Given as goal
 
 -- those of the threads so far that have a higher priority were passed

@@ -1,6 +1,4 @@
-use Rattle.std.proofs.Common.{◌≡◌, sym, ◌∙◌, ap}
-use Rattle.never_cut.specs.Pending.{pending}
-use Rattle.never_cut.specs.Replaying.{model_of}
+use Rattle.never_cut.proofs.Common.{◌≡◌, sym, ◌∙◌, ap, pending, model_of}
 use Rattle.never_cut.proofs.Timely.{pending_timely}
 use Rattle.never_cut.proofs.replaying.Replaying.commit.Goals as goal
 

@@ -1,6 +1,4 @@
-use Rattle.std.proofs.Common.{◌≡◌, ◌-◌, length}
-use Rattle.never_cut.specs.Pending.{first_number, has_item}
-use Rattle.never_cut.specs.Replaying.{model_of}
+use Rattle.never_cut.proofs.Common.{◌≡◌, ◌-◌, length, first_number, has_item, model_of}
 use Rattle.never_cut.proofs.replaying.Replaying.first_pipe.Given as goal
 
 -- no pipe below `q` will do

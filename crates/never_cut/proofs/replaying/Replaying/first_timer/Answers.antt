@@ -1,6 +1,4 @@
-use Rattle.std.proofs.Common.{length, ◌∙◌, sym, arith}
-use Rattle.never_cut.specs.Pending.{has_due}
-use Rattle.never_cut.specs.Replaying.{model_of}
+use Rattle.never_cut.proofs.Common.{length, ◌∙◌, sym, arith, has_due, model_of}
 use Rattle.never_cut.proofs.Firsts.{found, passed_over}
 use Rattle.never_cut.proofs.replaying.Replaying.first_timer.Goals as goal
 

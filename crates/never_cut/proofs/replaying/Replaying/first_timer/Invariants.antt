@@ -1,6 +1,4 @@
-use Rattle.std.proofs.Common.{◌≡◌, ◌-◌, length}
-use Rattle.never_cut.specs.Pending.{first_number, has_due}
-use Rattle.never_cut.specs.Replaying.{model_of}
+use Rattle.never_cut.proofs.Common.{◌≡◌, ◌-◌, length, first_number, has_due, model_of}
 use Rattle.never_cut.proofs.replaying.Replaying.first_timer.Given as goal
 
 -- no timer below `j` will do

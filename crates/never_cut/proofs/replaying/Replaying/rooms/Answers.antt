@@ -1,7 +1,4 @@
-use Rattle.std.proofs.Common.{◌∷◌, [], ◌++◌, take, map, ap, sym, ◌∙◌}
-use Rattle.std.specs.List.{enumerate_from}
-use Rattle.never_cut.specs.Commit.{room_in}
-use Rattle.never_cut.specs.Replaying.{model_of}
+use Rattle.never_cut.proofs.Common.{◌∷◌, [], ◌++◌, take, map, ap, sym, ◌∙◌, enumerate_from, room_in, model_of}
 use Rattle.never_cut.proofs.Rooms.{map-enumerate_from-more}
 use Rattle.never_cut.proofs.replaying.Replaying.rooms.Goals as goal
 

@@ -1,7 +1,4 @@
-use Rattle.std.proofs.Common.{◌≡◌, map, take}
-use Rattle.std.specs.List.{enumerate_from}
-use Rattle.never_cut.specs.Commit.{room_in}
-use Rattle.never_cut.specs.Replaying.{model_of}
+use Rattle.never_cut.proofs.Common.{◌≡◌, map, take, enumerate_from, room_in, model_of}
 use Rattle.never_cut.proofs.replaying.Replaying.rooms.Given as goal
 
 abbrev pub invariant-loop-q : goal.invariant-loop-q

@@ -1,4 +1,4 @@
-use Rattle.event_queue.specs.Seats.{kernel_view}
+use Rattle.queue_rows.proofs.Common.{kernel_view}
 use Rattle.queue_rows.proofs.Carries.{source_hears}
 use Rattle.queue_rows.proofs.tests.carrying.tell_source.Goals as goal
 

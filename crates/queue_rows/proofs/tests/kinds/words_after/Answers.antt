@@ -1,5 +1,4 @@
-use Rattle.std.proofs.Common.{rules}
-use Rattle.event_queue.specs.Seats.{IsSeatOf}
+use Rattle.queue_rows.proofs.Common.{rules, IsSeatOf}
 use Rattle.queue_rows.proofs.Queues.{all_back}
 use Rattle.queue_rows.proofs.tests.kinds.words_after.Goals as goal
 

@@ -1,4 +1,4 @@
-use Rattle.std.proofs.Common.{rules}
+use Rattle.queue_rows.proofs.Common.{rules}
 use Rattle.queue_rows.proofs.Queues.{one_queue_is}
 use Rattle.queue_rows.proofs.tests.opening.one_queue.Goals as goal
 

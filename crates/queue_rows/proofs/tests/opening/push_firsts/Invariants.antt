@@ -1,5 +1,4 @@
-use Rattle.std.proofs.Common.{◌≡◌, ◌++◌}
-use Rattle.queue_rows.specs.Rounds.{firsts}
+use Rattle.queue_rows.proofs.Common.{◌≡◌, ◌++◌, firsts}
 use Rattle.queue_rows.proofs.tests.opening.push_firsts.Given as goal
 
 abbrev pub invariant-loop : goal.invariant-loop

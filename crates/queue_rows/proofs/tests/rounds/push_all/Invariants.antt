@@ -1,7 +1,4 @@
-use Rattle.std.proofs.Common.{◌≡◌, ◌≤◌, length}
-use Rattle.event_queue.specs.Calls.{mine_of, next_of}
-use Rattle.event_queue.specs.Seats.{view, ring_of, IsSeatOf}
-use Rattle.event_queue.specs.Views.{calls_of}
+use Rattle.queue_rows.proofs.Common.{◌≡◌, ◌≤◌, length, mine_of, next_of, view, ring_of, IsSeatOf, calls_of}
 use Rattle.queue_rows.proofs.tests.rounds.push_all.Given as goal
 
 abbrev pub invariant-loop : goal.invariant-loop

@@ -1,5 +1,4 @@
-use Rattle.std.proofs.Common.{◌≤◌}
-use Rattle.queue_rows.specs.Rounds.{IsAt}
+use Rattle.queue_rows.proofs.Common.{◌≤◌, IsAt}
 use Rattle.queue_rows.proofs.tests.rounds.take_all.Given as goal
 
 abbrev pub invariant-loop : goal.invariant-loop

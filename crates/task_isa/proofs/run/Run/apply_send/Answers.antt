@@ -1,5 +1,4 @@
-use Rattle.std.proofs.Common.{◌<◌, arith}
-use Rattle.task_isa.specs.Meaning.{given_of, room_of}
+use Rattle.task_isa.proofs.Common.{◌<◌, arith, given_of, room_of}
 use Rattle.task_isa.proofs.Sends.{makes_send, makes_no_send}
 use Rattle.task_isa.proofs.run.Run.apply_send.Goals as goal
 

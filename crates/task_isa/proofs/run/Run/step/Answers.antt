@@ -1,8 +1,4 @@
-use Rattle.std.proofs.Common.{◌≡◌, refl, arith}
-use Rattle.std.proofs.lemmas.List.{get_or_past}
-use Rattle.task_isa.specs.declared.instr.Instr.TheVariants.{Done}
-use Rattle.task_isa.specs.Meaning.{given_of, instr_at}
-use Rattle.task_isa.specs.Runs.{config_of}
+use Rattle.task_isa.proofs.Common.{◌≡◌, refl, arith, get_or_past, Done, given_of, instr_at, config_of}
 use Rattle.task_isa.specs.Acts.{act_of}
 use Rattle.task_isa.proofs.Fitting.{act_of_fits}
 use Rattle.task_isa.proofs.run.Run.step.Goals as goal

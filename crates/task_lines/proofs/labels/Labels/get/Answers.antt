@@ -1,9 +1,5 @@
 -- What the map finds is what the list finds.
-use Rattle.std.proofs.Common.{◌≡◌, ℕ, List, Option, sym, ap, ◌∙◌}
-use Rattle.std.specs.Option.{option_map}
-use Rattle.ink_base.specs.Lines.{Word}
-use Rattle.task_lines.specs.Labels.{offset_of}
-use Rattle.task_lines.specs.declared.labels.Label.{Label}
+use Rattle.task_lines.proofs.Common.{◌≡◌, ℕ, List, Option, sym, ap, ◌∙◌, option_map, Word, offset_of, Label}
 use Rattle.task_lines.proofs.LabelMap.{lookup_seen}
 use Rattle.task_lines.proofs.labels.Labels.get.Goals as goal
 

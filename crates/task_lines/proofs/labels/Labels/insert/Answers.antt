@@ -1,13 +1,5 @@
 -- The map with one more label: each name but the new one keeps its place.
-use Rattle.std.proofs.Common.{◌≡◌, ℕ, List, length, None, sym, ap, ◌∙◌}
-use Rattle.std.specs.Ordering.{nat_cmp}
-use Rattle.std.specs.Cmp.Lexicographic.{slice_cmp}
-use Rattle.std.specs.BTreeMap.{insert_entry}
-use Rattle.std.proofs.lemmas.List.{length-map}
-use Rattle.ink_base.specs.Lines.{Word}
-use Rattle.task_lines.specs.Labels.{offset_of, with_label}
-use Rattle.task_lines.specs.declared.labels.Label.{Label}
-use Rattle.task_lines.specs.kept.Placed.{seen, listed}
+use Rattle.task_lines.proofs.Common.{◌≡◌, ℕ, List, length, None, sym, ap, ◌∙◌, nat_cmp, slice_cmp, insert_entry, length-map, Word, offset_of, with_label, Label, seen, listed}
 use Rattle.task_lines.proofs.LabelMap.{insert_seen, listed_insert, kept_insert}
 use Rattle.task_lines.proofs.labels.Labels.insert.Goals as goal
 

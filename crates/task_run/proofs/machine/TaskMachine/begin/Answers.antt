@@ -1,8 +1,5 @@
 -- The first registers of a pick, by the lemma.
-use Rattle.std.proofs.Common.{rules, ◌≡◌, sym, subst}
-use Rattle.task_run.specs.declared.machine.TaskMachine.{TaskMachine}
-use Rattle.task_run.specs.Machine.{begin}
-use Rattle.task_run.specs.Reached.{IsServiceOf}
+use Rattle.task_run.proofs.Common.{rules, ◌≡◌, sym, subst, TaskMachine, begin, IsServiceOf}
 use Rattle.task_run.specs.declared.ending.Ending.TheVariants.{Done}
 use Rattle.task_run.proofs.Alone.{service_begins}
 use Rattle.task_run.proofs.machine.TaskMachine.begin.Goals as goal

@@ -1,6 +1,5 @@
 -- The registers after a word in its range, by the lemma on each phase.
-use Rattle.std.proofs.Common.{◌≡◌, subst}
-use Rattle.task_isa.specs.declared.program.Program.{Program}
+use Rattle.task_run.proofs.Common.{◌≡◌, subst, Program}
 use Rattle.task_run.specs.Machine as machine
 use Rattle.task_run.proofs.Alone.{service_goes}
 use Rattle.task_run.proofs.machine.TaskMachine.take.Goals as goal

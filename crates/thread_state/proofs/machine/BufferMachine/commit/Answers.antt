@@ -1,8 +1,5 @@
 -- The mask has no bit that neither the commit word nor the dirty set has.
-use Rattle.std.proofs.Common.{subst, bit_xor}
-use Rattle.std.proofs.lemmas.Nat.{xor_lt}
-use Rattle.thread_state.specs.Blocks.{IsCommitWord}
-use Rattle.thread_state.specs.Writes.{Writes}
+use Rattle.thread_state.proofs.Common.{subst, bit_xor, xor_lt, IsCommitWord, Writes}
 use Rattle.thread_state.proofs.machine.BufferMachine.commit.Goals as goal
 
 pub returns-clause-allowed : goal.returns-clause-allowed

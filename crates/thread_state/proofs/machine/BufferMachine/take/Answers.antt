@@ -1,7 +1,5 @@
 -- The dirty set gets a page of the block.
-use Rattle.std.proofs.Common.{subst, sym, ℕ, Option, None}
-use Rattle.thread_state.specs.Pages.{Buffer}
-use Rattle.thread_state.specs.Writes.{IsKept}
+use Rattle.thread_state.proofs.Common.{subst, sym, ℕ, Option, None, Buffer, IsKept}
 use Rattle.thread_state.proofs.Masks.{copy_kept}
 use Rattle.thread_state.proofs.machine.BufferMachine.take.Goals as goal
 
