@@ -1,4 +1,3 @@
-mod Common
 pub mod AsciiNames
 pub mod Values
 pub mod Counted
