@@ -5,8 +5,8 @@ ghost use Rattle.ink_report.specs.Conditions.{NamesPart};
 ghost use Rattle.ink_report.specs.Journal.{source_entry, thread_entry, entry_line, entry_lines};
 
 use crate::names::name_of;
-use crate::numbers::put_count;
 use ink_base::{Entry, NoMemory, SourceId, ThreadId};
+use ink_text::{put_count, put_name};
 use task_isa::Program;
 
 /// Appends a line for each entry. The entries name threads and sources of the program. Out of memory may be answered at any time.
@@ -70,8 +70,7 @@ fn put_thread_entry(
     ensures { OnOk result (out.new.items ≡ out.old.items ++ thread_entry program.now kind.now thread) }
 {
     out.extend_from_slice(kind)?;
-    out.push(b' ')?;
-    out.extend_from_slice(name_of(program, thread))?;
+    put_name(out, b" ", name_of(program, thread))?;
     out.push(b'\n')?;
     Ok(())
 }

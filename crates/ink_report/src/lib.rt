@@ -6,7 +6,6 @@ mod journal;
 mod json;
 mod lines;
 mod names;
-mod numbers;
 mod report;
 mod summary;
 

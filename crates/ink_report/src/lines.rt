@@ -5,9 +5,9 @@ ghost use Rattle.ink_report.specs.Conditions.{NamesThread};
 ghost use Rattle.ink_report.specs.Lines.{output_line, output_lines, thread_line, source_line, totals_line, summary_lines};
 
 use crate::names::name_of;
-use crate::numbers::{put_count, put_number};
 use crate::summary::{SourceSummary, Summary, ThreadSummary};
 use ink_base::{NoMemory, Output};
+use ink_text::{put_count, put_name, put_number};
 use task_isa::Program;
 
 // Appends a line for each output.
@@ -26,8 +26,7 @@ fn put_output(out: &mut Vec<u8>, program: &Program, output: Output) -> Result<()
     ensures { OnOk result (out.new.items ≡ out.old.items ++ output_line program.now output) }
 {
     put_number(out, output.stamp)?;
-    out.push(b' ')?;
-    out.extend_from_slice(name_of(program, output.thread))?;
+    put_name(out, b" ", name_of(program, output.thread))?;
     put_count(out, b" ", u64::from(output.value))?;
     out.push(b'\n')?;
     Ok(())
@@ -55,8 +54,7 @@ fn put_threads(out: &mut Vec<u8>, threads: &[ThreadSummary]) -> Result<(), NoMem
 fn put_thread(out: &mut Vec<u8>, thread: &ThreadSummary) -> Result<(), NoMemory>
     ensures { OnOk result (out.new.items ≡ out.old.items ++ thread_line thread.now) }
 {
-    out.extend_from_slice(b"thread ")?;
-    out.extend_from_slice(thread.name.as_bytes())?;
+    put_name(out, b"thread ", thread.name.as_bytes())?;
     put_count(out, b" served ", thread.served)?;
     put_count(out, b" trapped ", thread.trapped)?;
     put_count(out, b" expired ", thread.expired)?;

@@ -9,6 +9,7 @@ ghost use Rattle.ink_report.specs.Conditions.{FitsProgram};
 ghost use Rattle.ink_report.specs.Summary.{thread_summary, source_summary, summary_of, HasRoom, HasRoomFor};
 ghost use Rattle.ink_report.specs.kept.Noted.{with_more, noted};
 
+use ink_base::limits::SOURCES;
 use ink_base::{Entry, NoMemory, SourceId};
 use never_cut::Model;
 use prog_check::Accepted;
@@ -147,7 +148,7 @@ fn sources_at(
     program: &Program,
     model: &Model,
 ) -> Result<Items<SourceSummary>, NoMemory>
-    requires few { length program.now.sources ≤ 16 }
+    requires few { length program.now.sources ≤ SOURCES }
     requires there { length model.now.sources ≡ length program.now.sources }
     ensures { IfOk result (λ sources. sources ≡ map (source_summary model.now []) (range_with_len 0 (length program.now.sources))) }
 {
@@ -159,7 +160,7 @@ fn sources_at(
 }
 
 fn source_at(model: &Model, i: usize) -> SourceSummary
-    requires few { i < 16 }
+    requires few { i < SOURCES }
     requires there { i < length model.now.sources }
     ensures { result ≡ source_summary model.now [] i }
 {
