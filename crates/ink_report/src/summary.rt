@@ -49,7 +49,7 @@ pub struct Summary {
 
 impl Summary {
     /// The summary of a state in which a run of so many charges ended, with no entry counted yet. The state has as many threads and
-    /// sources as the program. Out of memory may be answered at any time.
+    /// sources as the program, and its outputs name threads of it. Out of memory may be answered at any time.
     pub fn begin(
         alloc: Global,
         program: &Accepted,
