@@ -1,8 +1,5 @@
 -- Names are ASCII, so they are UTF-8.
-use Rattle.std.proofs.Common.{◌≡◌, ℕ, ◌<◌, true, List, [], ◌∷◌, IsAscii, IsUtf8, IsTrue, length, arith, nat_le, ◌&&◌}
-use Rattle.std.specs.List.{list_all}
-use Rattle.std.proofs.lemmas.Bool.{and_parts}
-use Rattle.std.proofs.lemmas.Bool.Decides.{nat_tests}
+use Rattle.ink_report.proofs.Common.{◌≡◌, ℕ, ◌<◌, true, List, [], ◌∷◌, IsAscii, IsUtf8, IsTrue, length, arith, nat_le, ◌&&◌, list_all, and_parts, nat_tests}
 use Rattle.std.proofs.lemmas.Str.{IsUtf8-from_ascii}
 use Rattle.std.proofs.lemmas.Str.Ascii.{IsAscii-nil, IsAscii-cons}
 use Rattle.task_isa.specs.Names.{is_letter, goes_on_name, is_name}

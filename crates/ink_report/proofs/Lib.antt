@@ -1,3 +1,4 @@
+mod Common
 pub mod AsciiNames
 pub mod Values
 pub mod Counted

@@ -1,10 +1,5 @@
 -- Values with no float.
-use Rattle.std.proofs.Common.{◌≡◌, false, List, [], ◌∷◌, map, refl}
-use Rattle.serde_json.specs.Data.{Data}
-use Rattle.serde_json.specs.View.{items_of}
-use Rattle.serde_json.specs.Written.{has_float, items_have_float}
-use Rattle.ink_report.specs.declared.summary.Summary.{Summary}
-use Rattle.ink_report.specs.Json.{source_data, thread_data, summary_data}
+use Rattle.ink_report.proofs.Common.{◌≡◌, false, List, [], ◌∷◌, map, refl, Data, items_of, has_float, items_have_float, Summary, source_data, thread_data, summary_data}
 
 items_have_no_float : {X : Type 0} (part : X → Data) → ((x : X) → has_float (part x) ≡ false) → (xs : List X) → items_have_float (items_of (map part xs)) ≡ false
 items_have_no_float part none [] = refl

@@ -1,11 +1,15 @@
 -- What can be reported.
-use Rattle.std.specs.Prelude.{◌≡◌, ◌<◌, false, List, length, All}
+use Rattle.std.specs.Prelude.{◌≡◌, ◌<◌, false, List, length, All, None}
 use Rattle.ink_base.specs.declared.entry.Entry.{Entry}
 use Rattle.ink_base.specs.declared.entry.Entry.TheVariants.{Push, Refuse, Skip, Tick, Scan, Look, Commit, Release}
 use Rattle.ink_base.specs.declared.output.Output.{Output}
 use Rattle.task_isa.specs.declared.program.Program.{Program}
 use Rattle.never_cut.specs.declared.model.Model.{Model}
 use Rattle.ink_report.specs.declared.flags.Flags.{Flags}
+
+-- no flag is set
+abbrev pub no_flags : Flags
+no_flags = record { journal = false; json = false; bounds = false; image = false; seed = None }
 
 -- the bounds of a charge aren't asked for
 abbrev pub IsSupported : Flags → Type 0

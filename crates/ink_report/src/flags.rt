@@ -10,3 +10,21 @@ pub struct Flags {
     pub image: bool,
     pub seed: Option<u32>,
 }
+
+impl Flags {
+    ghost use Rattle.std.specs.Prelude.{◌≡◌};
+    ghost use Rattle.ink_report.specs.Conditions.{no_flags};
+
+    /// No flag is set.
+    pub fn none() -> Flags
+        ensures { result ≡ no_flags }
+    {
+        Flags {
+            journal: false,
+            json: false,
+            bounds: false,
+            image: false,
+            seed: None,
+        }
+    }
+}

@@ -1,4 +1,4 @@
-use Rattle.std.proofs.Common.{◌≡◌, ◌++◌, take}
+use Rattle.ink_report.proofs.Common.{◌≡◌, ◌++◌, take}
 use Rattle.ink_report.specs.Journal.{entry_lines}
 use Rattle.ink_report.proofs.journal.put_entries.Given as goal
 

@@ -1,8 +1,5 @@
-use Rattle.std.proofs.Common.{◌≡◌, ℕ, List, ◌++◌, codes, string_bytes, ap, ◌∙◌, append_assoc}
-use Rattle.serde_json.specs.View.{view}
-use Rattle.serde_json.specs.Data.{Data}
-use Rattle.serde_json.specs.Written.{has_float, compact_text}
-use Rattle.ink_report.specs.Json.{summary_data, json_line}
+use Rattle.ink_report.proofs.Common.{◌≡◌, ℕ, List, ◌++◌, codes, string_bytes, ap, ◌∙◌, append_assoc, view, Data, has_float, compact_text, summary_data}
+use Rattle.ink_report.specs.Json.{json_line}
 use Rattle.ink_report.proofs.Values.{summary_has_no_float}
 use Rattle.ink_report.proofs.json.put_json.Goals as goal
 

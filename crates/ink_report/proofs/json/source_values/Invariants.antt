@@ -1,6 +1,4 @@
-use Rattle.std.proofs.Common.{◌≡◌, map, take}
-use Rattle.serde_json.specs.View.{view}
-use Rattle.ink_report.specs.Json.{source_data}
+use Rattle.ink_report.proofs.Common.{◌≡◌, map, take, view, source_data}
 use Rattle.ink_report.proofs.json.source_values.Given as goal
 
 abbrev pub invariant-loop-source : goal.invariant-loop-source

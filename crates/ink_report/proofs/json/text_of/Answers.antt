@@ -1,4 +1,4 @@
-use Rattle.std.proofs.Common.{Result, Ok, Err, MatchResult, IsOk, rules}
+use Rattle.ink_report.proofs.Common.{Result, Ok, Err, MatchResult, IsOk, rules}
 use Rattle.ink_report.proofs.AsciiNames.{IsUtf8-from_name}
 use Rattle.ink_report.proofs.json.text_of.Goals as goal
 

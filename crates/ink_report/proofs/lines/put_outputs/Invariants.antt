@@ -1,5 +1,4 @@
-use Rattle.std.proofs.Common.{◌≡◌, ◌++◌, take}
-use Rattle.ink_report.specs.Lines.{output_lines}
+use Rattle.ink_report.proofs.Common.{◌≡◌, ◌++◌, take, output_lines}
 use Rattle.ink_report.proofs.lines.put_outputs.Given as goal
 
 abbrev pub invariant-loop-output : goal.invariant-loop-output

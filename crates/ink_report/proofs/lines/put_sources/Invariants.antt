@@ -1,6 +1,4 @@
-use Rattle.std.proofs.Common.{◌≡◌, ◌++◌, take}
-use Rattle.std.specs.List.{flat_map}
-use Rattle.ink_report.specs.Lines.{source_line}
+use Rattle.ink_report.proofs.Common.{◌≡◌, ◌++◌, take, flat_map, source_line}
 use Rattle.ink_report.proofs.lines.put_sources.Given as goal
 
 abbrev pub invariant-loop-source : goal.invariant-loop-source

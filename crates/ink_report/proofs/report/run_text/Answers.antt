@@ -1,6 +1,4 @@
-use Rattle.std.proofs.Common.{◌≡◌, [], ◌++◌, length, sym, ◌∙◌, subst, arith}
-use Rattle.ink_report.specs.declared.summary.Summary.{Summary}
-use Rattle.ink_report.specs.Summary.{summary_of, HasRoomFor}
+use Rattle.ink_report.proofs.Common.{◌≡◌, [], ◌++◌, length, sym, ◌∙◌, subst, arith, Summary, summary_of, HasRoomFor}
 use Rattle.ink_report.specs.Report.{head, entries_part}
 use Rattle.ink_report.proofs.Counted.{summary_has_room}
 use Rattle.ink_report.proofs.report.run_text.Goals as goal

@@ -1,6 +1,4 @@
-use Rattle.std.proofs.Common.{[], ◌∷◌, ◌++◌, sym, ◌∙◌, arith}
-use Rattle.std.proofs.lemmas.List.FromFn.{map-range_with_len_more}
-use Rattle.ink_report.specs.Summary.{source_summary}
+use Rattle.ink_report.proofs.Common.{[], ◌∷◌, ◌++◌, sym, ◌∙◌, arith, map-range_with_len_more, source_summary}
 use Rattle.ink_report.proofs.summary.sources_at.Goals as goal
 
 pub loop-i-preserved : goal.loop-i-preserved

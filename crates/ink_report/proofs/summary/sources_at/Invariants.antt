@@ -1,6 +1,4 @@
-use Rattle.std.proofs.Common.{◌≡◌, map, []}
-use Rattle.std.specs.List.{range_with_len}
-use Rattle.ink_report.specs.Summary.{source_summary}
+use Rattle.ink_report.proofs.Common.{◌≡◌, map, [], range_with_len, source_summary}
 use Rattle.ink_report.proofs.summary.sources_at.Given as goal
 
 abbrev pub invariant-loop-i : goal.invariant-loop-i

@@ -1,6 +1,4 @@
-use Rattle.std.proofs.Common.{[], ◌∷◌, ◌++◌, sym, ◌∙◌, arith}
-use Rattle.std.proofs.lemmas.List.FromFn.{map-range_with_len_more}
-use Rattle.ink_report.specs.Summary.{thread_summary}
+use Rattle.ink_report.proofs.Common.{[], ◌∷◌, ◌++◌, sym, ◌∙◌, arith, map-range_with_len_more, thread_summary}
 use Rattle.ink_report.proofs.summary.threads_at.Goals as goal
 
 pub loop-t-preserved : goal.loop-t-preserved

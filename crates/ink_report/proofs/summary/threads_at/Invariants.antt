@@ -1,6 +1,4 @@
-use Rattle.std.proofs.Common.{◌≡◌, map}
-use Rattle.std.specs.List.{range_with_len}
-use Rattle.ink_report.specs.Summary.{thread_summary}
+use Rattle.ink_report.proofs.Common.{◌≡◌, map, range_with_len, thread_summary}
 use Rattle.ink_report.proofs.summary.threads_at.Given as goal
 
 abbrev pub invariant-loop-t : goal.invariant-loop-t

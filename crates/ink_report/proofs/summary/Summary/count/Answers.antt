@@ -1,7 +1,4 @@
-use Rattle.std.proofs.Common.{ℕ, ◌+◌, ◌-◌, ◌<◌, ◌++◌, List, length, take, ap, ◌∙◌, arith, take_all}
-use Rattle.std.proofs.lemmas.List.{take_more}
-use Rattle.ink_base.specs.declared.entry.Entry.{Entry}
-use Rattle.ink_report.specs.Summary.{summary_of}
+use Rattle.ink_report.proofs.Common.{ℕ, ◌+◌, ◌-◌, ◌<◌, ◌++◌, List, length, take, ap, ◌∙◌, arith, take_all, take_more, Entry, summary_of}
 use Rattle.ink_report.proofs.Counted.{counts_more}
 use Rattle.ink_report.proofs.summary.Summary.count.Goals as goal
 

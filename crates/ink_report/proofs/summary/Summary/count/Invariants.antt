@@ -1,4 +1,4 @@
-use Rattle.std.proofs.Common.{◌-◌, length, take}
+use Rattle.ink_report.proofs.Common.{◌-◌, length, take}
 use Rattle.ink_report.proofs.Counted.{Counts}
 use Rattle.ink_report.proofs.summary.Summary.count.Given as goal
 
