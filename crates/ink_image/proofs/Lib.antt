@@ -1,4 +1,3 @@
-mod Common
 pub mod Rows
 pub mod Sections
 pub mod Again

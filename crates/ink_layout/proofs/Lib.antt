@@ -1,4 +1,3 @@
-mod Common
 pub mod Regions
 pub mod Lengths
 pub mod Bounds

@@ -1,4 +1,3 @@
-mod Common
 pub mod Pieces
 pub mod Runs
 pub mod Told

@@ -1,4 +1,3 @@
-mod Common
 pub mod Sides
 pub mod Quiet
 pub mod KernelSteps

@@ -1,4 +1,3 @@
-mod Common
 pub mod Below
 pub mod Apart
 pub mod Passed

@@ -1,4 +1,3 @@
-mod Common
 pub mod LabelMarks
 pub mod Printing
 pub mod Rendering

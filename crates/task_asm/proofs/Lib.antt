@@ -1,3 +1,2 @@
-mod Common
 pub mod Staying
 pub mod StayingTexts

@@ -1,9 +1,15 @@
 -- A fault of the section stays where other lines follow its own.
-use Rattle.task_asm.proofs.Common.{◌≡◌, ◌≢◌, ℕ, suc, ◌+◌, ◌<◌, ◌≤◌, Bool, true, false, List, [], ◌∷◌, ◌++◌, length, Option, Some, None, Result, Ok, Err, refl, sym, ap, ◌∙◌, inl, inr, ◌⊎◌, arith, cases_Bool, codes, Word, Line, JobFault, ◌>>◌, at_line, DraftTask, empty_draft, lines_of_draft, aimed, unless_lost, instr_of}
+use Rattle.std.proofs.Common.{◌≡◌, ◌≢◌, ℕ, suc, ◌+◌, ◌<◌, ◌≤◌, Bool, true, false, List, [], ◌∷◌, ◌++◌, length, Option, Some, None, Result, Ok, Err, refl, sym, ap, ◌∙◌, inl, inr, ◌⊎◌, arith, codes}
+use Rattle.std.proofs.lemmas.Bool.{cases_Bool}
+use Rattle.ink_base.specs.Lines.{Word, Line}
+use Rattle.ink_base.specs.declared.fault.JobFault.{JobFault}
+use Rattle.ink_base.specs.Gives.{◌>>◌, at_line, each}
+use Rattle.task_lines.specs.declared.draft.DraftTask.{DraftTask}
+use Rattle.task_asm.specs.Section.{empty_draft, lines_of_draft, draft_end, program_in}
+use Rattle.task_asm.specs.Targets.{aimed, unless_lost, instr_of, task_of, program_of}
 use Rattle.std.specs.Option.{is_some}
 use Rattle.ink_base.specs.declared.fault.Cause.{Cause}
 use Rattle.ink_base.specs.declared.fault.Cause.TheVariants.{BadTarget}
-use Rattle.ink_base.specs.Gives.{each}
 use Rattle.ink_text.specs.Section.{is_header, header_in, header_end, next_number, missing, next_header, lines_in, section_in}
 use Rattle.ink_text.proofs.Lines.{at_header, at_other, lines_end}
 use Rattle.task_isa.specs.declared.instr.Instr.{Instr}
@@ -12,8 +18,6 @@ use Rattle.task_isa.specs.declared.program.Program.{Program}
 use Rattle.task_lines.specs.declared.draft.DraftLine.{DraftLine}
 use Rattle.task_lines.specs.declared.draft.Draft.{Draft}
 use Rattle.task_lines.specs.Task.{line_in}
-use Rattle.task_asm.specs.Section.{draft_end, program_in}
-use Rattle.task_asm.specs.Targets.{task_of, program_of}
 
 -- each fault is behind this line, or a target that isn't there
 abbrev pub IsLate : {A : Type 0} → ℕ → Result A JobFault → Type 0

@@ -1,5 +1,10 @@
 -- A fault of the section stays where a text goes on otherwise.
-use Rattle.task_asm.proofs.Common.{◌≡◌, ◌≢◌, ℕ, zero, suc, ◌+◌, ◌<◌, ◌≤◌, List, [], ◌∷◌, ◌++◌, length, take, drop, Err, refl, sym, ap, ◌∙◌, inl, inr, arith, cases_Bool, cases_lt, take-append-drop, length-take, length-take-le, Line, words, before_comment, lines, numbered, lines_of, has_words, with_words, JobFault, program_in, program_at}
+use Rattle.std.proofs.Common.{◌≡◌, ◌≢◌, ℕ, zero, suc, ◌+◌, ◌<◌, ◌≤◌, List, [], ◌∷◌, ◌++◌, length, take, drop, Err, refl, sym, ap, ◌∙◌, inl, inr, arith, take-append-drop, length-take, length-take-le}
+use Rattle.std.proofs.lemmas.Bool.{cases_Bool, cases_lt}
+use Rattle.ink_base.specs.Lines.{Line, words, before_comment, lines, numbered, lines_of}
+use Rattle.ink_base.specs.TokenLines.{has_words, with_words}
+use Rattle.ink_base.specs.declared.fault.JobFault.{JobFault}
+use Rattle.task_asm.specs.Section.{program_in, program_at}
 use Rattle.std.proofs.lemmas.List.Elements.{filter-append}
 use Rattle.task_asm.specs.FaultLaw.{AgreeUpTo, FaultsStay}
 use Rattle.task_asm.proofs.Staying.{AreBehind, kept_program}

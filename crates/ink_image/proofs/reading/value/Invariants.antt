@@ -1,4 +1,5 @@
-use Rattle.ink_image.proofs.Common.{◌≡◌, ◌+◌, ◌^◌, ◌≤◌, take, value}
+use Rattle.std.proofs.Common.{◌≡◌, ◌+◌, ◌^◌, ◌≤◌, take}
+use Rattle.ink_image.specs.Reading.{value}
 use Rattle.ink_image.proofs.reading.value.Given as goal
 
 abbrev pub invariant-loop-b : goal.invariant-loop-b

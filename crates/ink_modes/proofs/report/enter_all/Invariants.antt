@@ -1,4 +1,6 @@
-use Rattle.ink_modes.proofs.Common.{◌≡◌, take, after, model_of}
+use Rattle.std.proofs.Common.{◌≡◌, take}
+use Rattle.never_cut.specs.Journal.{after}
+use Rattle.never_cut.specs.Replaying.{model_of}
 use Rattle.ink_modes.proofs.report.enter_all.Given as goal
 
 abbrev pub invariant-loop-entry : goal.invariant-loop-entry

@@ -1,4 +1,5 @@
-use Rattle.task_asm.proofs.Common.{◌≡◌, map, take, code_lines}
+use Rattle.std.proofs.Common.{◌≡◌, map, take}
+use Rattle.task_asm.specs.Section.{code_lines}
 use Rattle.task_asm.proofs.finish.lines_of_code.Given as goal
 
 abbrev pub invariant-loop-task : goal.invariant-loop-task

@@ -1,4 +1,7 @@
-use Rattle.task_asm.proofs.Common.{◌≡◌, ℕ, List, length, Ok, sym, ap, ◌∙◌, arith, token_lines, with_words, Line, lines, lines_of, program_in, program_at}
+use Rattle.std.proofs.Common.{◌≡◌, ℕ, List, length, Ok, sym, ap, ◌∙◌, arith}
+use Rattle.ink_base.specs.TokenLines.{token_lines, with_words}
+use Rattle.ink_base.specs.Lines.{Line, lines, lines_of}
+use Rattle.task_asm.specs.Section.{program_in, program_at}
 use Rattle.ink_base.specs.Tokens.{AreTokens}
 use Rattle.ink_base.specs.declared.token.Token.{Token}
 use Rattle.ink_base.proofs.Failing.{Answers-same}

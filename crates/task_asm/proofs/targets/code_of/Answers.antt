@@ -1,4 +1,6 @@
-use Rattle.task_asm.proofs.Common.{arith, Goes-none, Goes-more, Goes-fails, Goes-all, instr_of}
+use Rattle.std.proofs.Common.{arith}
+use Rattle.ink_base.proofs.Each.{Goes-none, Goes-more, Goes-fails, Goes-all}
+use Rattle.task_asm.specs.Targets.{instr_of}
 use Rattle.task_asm.proofs.targets.code_of.Goals as goal
 
 pub loop-line-init : goal.loop-line-init

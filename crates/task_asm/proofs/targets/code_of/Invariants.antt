@@ -1,4 +1,5 @@
-use Rattle.task_asm.proofs.Common.{Goes, instr_of, code_of}
+use Rattle.ink_base.proofs.Each.{Goes}
+use Rattle.task_asm.specs.Targets.{instr_of, code_of}
 use Rattle.task_asm.proofs.targets.code_of.Given as goal
 
 abbrev pub invariant-loop-line : goal.invariant-loop-line

@@ -1,4 +1,7 @@
-use Rattle.task_asm.proofs.Common.{◌≡◌, List, length, get_or, sym, ap, ◌∙◌, arith, Goes-none, Goes-more, Goes-fails, Goes-all, DraftTask, task_of}
+use Rattle.std.proofs.Common.{◌≡◌, List, length, get_or, sym, ap, ◌∙◌, arith}
+use Rattle.ink_base.proofs.Each.{Goes-none, Goes-more, Goes-fails, Goes-all}
+use Rattle.task_lines.specs.declared.draft.DraftTask.{DraftTask}
+use Rattle.task_asm.specs.Targets.{task_of}
 use Rattle.task_asm.proofs.targets.tasks_of.Goals as goal
 
 pub loop-task-init : goal.loop-task-init
