@@ -40,7 +40,7 @@ fn full_of(alloc: Global, fram: &Fram) -> Result<Vec<u64>, NoMemory> {
 
 fn image_of(alloc: Global, text: &[u8]) -> Result<Vec<u64>, JobAnswer> {
     let plan = plan(alloc, text)?;
-    let image = first_image(alloc, &plan)?;
+    let image = first_image(alloc, &plan.accepted, &plan.layout)?;
     Ok(full_of(alloc, &image)?)
 }
 

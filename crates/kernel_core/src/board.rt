@@ -141,7 +141,7 @@ impl Core {
         ensures board { self.new.board ≡ first_board (setup_of self.old.job) self.new.board.words (length self.old.job.charges) }
         ensures job { self.new.job ≡ self.old.job }
     {
-        write_first_image(&mut self.fram, &self.plan);
+        write_first_image(&mut self.fram, &self.plan.accepted, &self.plan.layout);
         self.kernel = Kernel::boot();
         lose_rows(&mut self.pushers);
         clear_records(&mut self.charges);

@@ -64,7 +64,7 @@ impl Start {
         let kept = Vec::with_capacity(alloc, job.charges().len())?;
         let (accepted, readings, listed) = job.into_parts();
         let plan = Plan::new(alloc, accepted)?;
-        let fram = first_image(alloc, &plan)?;
+        let fram = first_image(alloc, &plan.accepted, &plan.layout)?;
         let pushers = first_pushers(alloc, &plan)?;
         Ok(Start {
             plan,

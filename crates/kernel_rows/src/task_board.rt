@@ -267,6 +267,6 @@ pub(crate) fn serve(
     words: [u32; 4],
 ) -> Option<Served> {
     let plan = plan(alloc, text).ok()?;
-    let mut fram = first_image(alloc, &plan).ok()?;
+    let mut fram = first_image(alloc, &plan.accepted, &plan.layout).ok()?;
     served_on(&plan, &mut fram, pick, stamp, words)
 }

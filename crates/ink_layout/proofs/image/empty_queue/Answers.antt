@@ -9,8 +9,8 @@ use Rattle.ink_layout.proofs.image.empty_queue.Goals as goal
 
 pub returns : goal.returns
 returns c =
-    let all : c.loop-n.n ≡ (thread_def c.args.plan.now.accepted c.args.t).queue = omega (arith, c.queue_len-n-end.ensures) in
-    holds_as c.args.plan.now.accepted c.loop-n.fram (slots_until c.args.plan.now.accepted c.args.t (thread_def c.args.plan.now.accepted c.args.t).queue)
-    (slots_until c.args.plan.now.accepted (c.args.t + 1) 0)
-    (subst (λ (n : ℕ). Holds c.args.plan.now.accepted c.loop-n.fram (slots_until c.args.plan.now.accepted c.args.t n)) all c.loop-n.invariant)
-    (slots_end c.args.plan.now.accepted c.args.t)
+    let all : c.loop-n.n ≡ (thread_def c.args.program.now c.args.t).queue = omega (arith, c.queue_len-n-end.ensures) in
+    holds_as c.args.program.now c.loop-n.fram (slots_until c.args.program.now c.args.t (thread_def c.args.program.now c.args.t).queue)
+    (slots_until c.args.program.now (c.args.t + 1) 0)
+    (subst (λ (n : ℕ). Holds c.args.program.now c.loop-n.fram (slots_until c.args.program.now c.args.t n)) all c.loop-n.invariant)
+    (slots_end c.args.program.now c.args.t)

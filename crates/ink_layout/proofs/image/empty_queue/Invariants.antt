@@ -4,4 +4,4 @@ use Rattle.ink_layout.specs.Stages.{slots_until}
 use Rattle.ink_layout.proofs.image.empty_queue.Given as goal
 
 abbrev pub invariant-loop-n : goal.invariant-loop-n
-invariant-loop-n l = Holds l.plan.accepted l.fram (slots_until l.plan.accepted l.t l.n)
+invariant-loop-n l = Holds l.program l.fram (slots_until l.program l.t l.n)

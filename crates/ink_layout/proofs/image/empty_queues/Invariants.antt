@@ -4,4 +4,4 @@ use Rattle.ink_layout.specs.Stages.{slots_until}
 use Rattle.ink_layout.proofs.image.empty_queues.Given as goal
 
 abbrev pub invariant-loop-t : goal.invariant-loop-t
-invariant-loop-t l = Holds l.plan.accepted l.fram (slots_until l.plan.accepted l.t 0)
+invariant-loop-t l = Holds l.program l.fram (slots_until l.program l.t 0)

@@ -8,6 +8,6 @@ use Rattle.ink_layout.proofs.image.empty_slot.Goals as goal
 
 pub returns : goal.returns
 returns c =
-    holds_put c.args.plan.now.accepted c.put.new.fram (slots_until c.args.plan.now.accepted c.args.t c.args.n) (slots_until c.args.plan.now.accepted c.args.t (c.args.n + 1))
+    holds_put c.args.program.now c.put.new.fram (slots_until c.args.program.now c.args.t c.args.n) (slots_until c.args.program.now c.args.t (c.args.n + 1))
     (Slot c.args.t c.args.n) c.empty.result _ (c.put.ensures.stored _ c.requires.before) c.empty.ensures
-    (λ q on. slots_next c.args.plan.now.accepted c.args.t c.args.n q)
+    (λ q on. slots_next c.args.program.now c.args.t c.args.n q)

@@ -3,5 +3,5 @@ use Rattle.std.proofs.Common.{length, ap, ◌∙◌}
 use Rattle.std.proofs.lemmas.List.{length-replicate}
 use Rattle.ink_layout.proofs.image.first_image.Goals as goal
 
-pub write_first_image-requires : goal.write_first_image-requires
-write_first_image-requires c = ap length c.in_ok-fram.ensures ∙ (length-replicate c.args.plan.now.layout.words 0 ∙ c.program-program.ensures.layout.words)
+pub write_first_image-requires-clause-count : goal.write_first_image-requires-clause-count
+write_first_image-requires-clause-count c = ap length c.in_ok-fram.ensures ∙ (length-replicate c.args.layout.now.words 0 ∙ c.requires.layout.words)

@@ -1,6 +1,7 @@
 -- The word has its address, and the memory has it once it is stored.
 use Rattle.std.proofs.Common.{ℕ, List, length, ap, ◌∙◌, sym, subst, refl, length-set}
-use Rattle.fram_words.specs.Words.{FitsWords, address_of, performed}
+use Rattle.fram_words.specs.declared.access.Access.TheVariants.{Store}
+use Rattle.fram_words.specs.Words.{performed}
 use Rattle.fram_words.specs.Places.{store}
 use Rattle.ink_layout.specs.Addresses.{layout_address}
 use Rattle.ink_layout.specs.Image.{Holds}
@@ -10,19 +11,19 @@ use Rattle.ink_layout.proofs.image.put.Goals as goal
 
 pub perform-requires-clause-within : goal.perform-requires-clause-within
 perform-requires-clause-within c =
-    within_words c.args.plan.now.accepted c.args.plan.now.layout c.args.fram.now (place_of c.args.place) _ c.program-program.ensures.layout c.requires.count c.requires.on_board
-    (ap address_of c.access.ensures)
+    within_words c.args.program.now c.args.layout.now c.args.fram.now (place_of c.args.place) _ c.requires.layout c.requires.count c.requires.on_board
+    c.address_of.ensures
 
 pub perform-requires-clause-fits : goal.perform-requires-clause-fits
-perform-requires-clause-fits c = subst (FitsWords c.args.fram.now) (sym c.access.ensures) tt
+perform-requires-clause-fits c = tt
 
 pub returns-clause-stored : goal.returns-clause-stored
 returns-clause-stored c memory before =
-    subst (λ (words : List ℕ). Holds c.args.plan.now.accepted words (store memory (place_of c.args.place) c.args.word))
-    (sym (c.perform.ensures.after ∙ ap (λ a. performed a c.args.fram.now) c.access.ensures))
-    (holds_store c.args.plan.now.accepted c.args.plan.now.layout c.args.fram.now memory (place_of c.args.place) _ c.args.word c.program-program.ensures.layout before c.requires.on_board refl)
+    subst (λ (words : List ℕ). Holds c.args.program.now words (store memory (place_of c.args.place) c.args.word))
+    (sym (c.perform.ensures.after ∙ ap (λ (a : ℕ). performed (Store a c.args.word) c.args.fram.now) c.address_of.ensures))
+    (holds_store c.args.program.now c.args.layout.now c.args.fram.now memory (place_of c.args.place) _ c.args.word c.requires.layout before c.requires.on_board refl)
 
 pub returns-clause-count : goal.returns-clause-count
 returns-clause-count c =
-    ap length (c.perform.ensures.after ∙ ap (λ a. performed a c.args.fram.now) c.access.ensures)
-    ∙ (length-set c.args.fram.now (layout_address c.args.plan.now.layout (place_of c.args.place)) c.args.word ∙ c.requires.count)
+    ap length (c.perform.ensures.after ∙ ap (λ (a : ℕ). performed (Store a c.args.word) c.args.fram.now) c.address_of.ensures)
+    ∙ (length-set c.args.fram.now (layout_address c.args.layout.now (place_of c.args.place)) c.args.word ∙ c.requires.count)

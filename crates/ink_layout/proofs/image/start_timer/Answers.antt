@@ -17,15 +17,15 @@ same_timer timers slice j timer e lt is =
 
 pub returns : goal.returns
 returns c =
-    let is = same_timer c.args.plan.now.accepted.timers c.as_slice.result.now c.args.j c.index-as_slice-j.result (c.as_slice.ensures ∙ ap (λ (p : Program). p.timers) c.program.ensures.same) c.requires.known c.index-as_slice-j.is in
+    let is = same_timer c.args.program.now.timers c.as_slice.result.now c.args.j c.index-as_slice-j.result (c.as_slice.ensures ∙ ap (λ (p : Program). p.timers) c.program.ensures.same) c.requires.known c.index-as_slice-j.is in
     let due_at : ℕ = c.word-due_at.result in
     let period_at : ℕ = c.word-period_at.result in
-    holds_as c.args.plan.now.accepted c.put_both-2.new.fram
-    (with_blocks c.args.plan.now.accepted (put_word (put_word (timed_word c.args.plan.now.accepted c.args.j) c.index-as_slice-j.result.thread.0 due_at c.first_due-due.result) c.index-as_slice-j.result.thread.0 period_at c.index-as_slice-j.result.period))
-    (with_blocks c.args.plan.now.accepted (timed_word c.args.plan.now.accepted (c.args.j + 1)))
-    (c.put_both-2.ensures.stored (put_word (timed_word c.args.plan.now.accepted c.args.j) c.index-as_slice-j.result.thread.0 due_at c.first_due-due.result)
-    (c.put_both.ensures.stored (timed_word c.args.plan.now.accepted c.args.j) c.requires.before))
-    (blocks_next c.args.plan.now.accepted c.args.j c.index-as_slice-j.result.thread.0 due_at period_at c.first_due-due.result c.index-as_slice-j.result.period
+    holds_as c.args.program.now c.put_both-2.new.fram
+    (with_blocks c.args.program.now (put_word (put_word (timed_word c.args.program.now c.args.j) c.index-as_slice-j.result.thread.0 due_at c.first_due-due.result) c.index-as_slice-j.result.thread.0 period_at c.index-as_slice-j.result.period))
+    (with_blocks c.args.program.now (timed_word c.args.program.now (c.args.j + 1)))
+    (c.put_both-2.ensures.stored (put_word (timed_word c.args.program.now c.args.j) c.index-as_slice-j.result.thread.0 due_at c.first_due-due.result)
+    (c.put_both.ensures.stored (timed_word c.args.program.now c.args.j) c.requires.before))
+    (blocks_next c.args.program.now c.args.j c.index-as_slice-j.result.thread.0 due_at period_at c.first_due-due.result c.index-as_slice-j.result.period
     c.word-due_at.ensures.number c.word-period_at.ensures.number
     (ap (λ (timer : TimerDef). timer.thread.0) is)
     (c.first_due-due.ensures ∙ ap (λ (timer : TimerDef). due_word timer.due) is)

@@ -4,4 +4,4 @@ use Rattle.ink_layout.specs.Stages.{with_blocks}
 use Rattle.ink_layout.proofs.image.start_timers.Given as goal
 
 abbrev pub invariant-loop-j : goal.invariant-loop-j
-invariant-loop-j l = Holds l.plan.accepted l.fram (with_blocks l.plan.accepted (timed_word l.plan.accepted l.j))
+invariant-loop-j l = Holds l.program l.fram (with_blocks l.program (timed_word l.program l.j))

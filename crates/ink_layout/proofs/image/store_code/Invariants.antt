@@ -4,4 +4,4 @@ use Rattle.ink_layout.specs.Stages.{code_until}
 use Rattle.ink_layout.proofs.image.store_code.Given as goal
 
 abbrev pub invariant-loop-x : goal.invariant-loop-x
-invariant-loop-x l = Holds l.plan.accepted l.fram (code_until l.plan.accepted l.x 0)
+invariant-loop-x l = Holds l.program l.fram (code_until l.program l.x 0)

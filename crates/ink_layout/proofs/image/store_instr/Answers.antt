@@ -18,7 +18,7 @@ same_instr code n i lt is = is ∙ get_or_default code n i Done lt
 pub returns : goal.returns
 returns c =
     let here = subst (λ (code : List Instr). c.index-code_of-n.result ≡ get_or code c.args.n c.index-code_of-n.result) c.code_of.ensures c.index-code_of-n.is in
-    let is = same_instr (task_def c.args.plan.now.accepted c.args.x).code c.args.n c.index-code_of-n.result c.requires.on_board.1 here in
-    holds_put c.args.plan.now.accepted c.put.new.fram (code_until c.args.plan.now.accepted c.args.x c.args.n) (code_until c.args.plan.now.accepted c.args.x (c.args.n + 1))
+    let is = same_instr (task_def c.args.program.now c.args.x).code c.args.n c.index-code_of-n.result c.requires.on_board.1 here in
+    holds_put c.args.program.now c.put.new.fram (code_until c.args.program.now c.args.x c.args.n) (code_until c.args.program.now c.args.x (c.args.n + 1))
     (Code c.args.x c.args.n) c.encode-word.result _ (c.put.ensures.stored _ c.requires.before) (c.encode-word.ensures.word ∙ ap word_of_instr is)
-    (λ q on. code_next c.args.plan.now.accepted c.args.x c.args.n q)
+    (λ q on. code_next c.args.program.now c.args.x c.args.n q)

@@ -4,4 +4,4 @@ use Rattle.ink_layout.specs.Stages.{code_until}
 use Rattle.ink_layout.proofs.image.store_task.Given as goal
 
 abbrev pub invariant-loop-n : goal.invariant-loop-n
-invariant-loop-n l = Holds l.plan.accepted l.fram (code_until l.plan.accepted l.x l.n)
+invariant-loop-n l = Holds l.program l.fram (code_until l.program l.x l.n)
