@@ -16,10 +16,11 @@ pub use Rattle.kernel_core.specs.RunRecords.{entries_of, journal_in, state_in}
 use Rattle.ink_report.specs.declared.flags.Flags.{Flags}
 use Rattle.ink_report.specs.Report as report
 
--- the board of a job after the first so many cuts and turns that it lists, from these words on, and after all
+-- the board of a job after the first so many cuts and turns that it lists, from these words on
 abbrev pub board_after : JobParts → List ℕ → ℕ → Board
 board_after job words n = run_first (setup_of job) words job.charges n
 
+-- and after all of them
 abbrev pub board_run : JobParts → List ℕ → Board
 board_run job words = run (setup_of job) words job.charges
 

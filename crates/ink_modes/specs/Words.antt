@@ -45,27 +45,32 @@ piece_said word =
     else (if bytes_eq word (codes "--image") then Some Image
     else seed_or_mode (behind (codes "--seed=") word) word)))
 
--- the mode that a piece names, the seed that it gives, and whether it is this flag
+-- the mode that a piece names
 abbrev pub named_in : Piece → Option Mode
 named_in (Named mode) = Some mode
 named_in _ = None
 
+-- the seed that it gives
 abbrev pub seed_in : Piece → Option ℕ
 seed_in (Seed number) = Some number
 seed_in _ = None
 
+-- whether it is `--journal`
 abbrev pub is_journal : Piece → Bool
 is_journal Journal = true
 is_journal _ = false
 
+-- whether it is `--json`
 abbrev pub is_json : Piece → Bool
 is_json Json = true
 is_json _ = false
 
+-- whether it is `--bounds`
 abbrev pub is_bounds : Piece → Bool
 is_bounds Bounds = true
 is_bounds _ = false
 
+-- whether it is `--image`
 abbrev pub is_image : Piece → Bool
 is_image Image = true
 is_image _ = false

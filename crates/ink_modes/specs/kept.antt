@@ -1,1 +1,2 @@
+-- What only a proof keeps.
 pub mod Asked

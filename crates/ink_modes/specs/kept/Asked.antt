@@ -6,6 +6,7 @@ use Rattle.ink_modes.specs.declared.words.Piece.{Piece}
 use Rattle.ink_modes.specs.declared.words.Piece.TheVariants.{Named, Journal, Json, Bounds, Image, Seed}
 use Rattle.ink_modes.specs.declared.words.Asked.{Asked}
 
+-- nothing was asked for
 abbrev pub nothing : Asked
 nothing = record { mode = None; flags = no_flags }
 
