@@ -7,3 +7,4 @@ pub mod Suffix
 pub mod Failing
 pub mod Each
 pub mod Sizes
+pub mod MoreLines

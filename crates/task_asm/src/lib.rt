@@ -2,7 +2,9 @@
 #![tactic(auto)]
 
 mod finish;
+mod laws;
 mod section;
 mod targets;
 
+pub use laws::first_faults_stay;
 pub use section::read_program;
