@@ -7,12 +7,11 @@ use Rattle.ink_base.specs.declared.fault.Cause.TheVariants.{BadTarget}
 use Rattle.ink_base.specs.declared.fault.JobFault.{JobFault}
 use Rattle.ink_base.specs.Gives.{◌>>◌, at_line, each}
 use Rattle.ink_base.proofs.MoreLines.{worded_more}
-use Rattle.ink_text.specs.Section.{header_in, missing, next_number, next_header, section_in}
+use Rattle.ink_text.specs.Section.{header_in, missing, next_header, section_in}
 use Rattle.ink_text.proofs.Stay.{step_same, section_stays, section_ends}
 use Rattle.task_isa.specs.declared.instr.Instr.{Instr}
 use Rattle.task_isa.specs.declared.lines.Lines.{Lines}
 use Rattle.task_isa.specs.declared.program.Program.{Program}
-use Rattle.task_isa.specs.declared.program.Task.{Task}
 use Rattle.task_lines.specs.declared.draft.Draft.{Draft}
 use Rattle.task_lines.specs.declared.draft.DraftLine.{DraftLine}
 use Rattle.task_lines.specs.declared.draft.DraftTask.{DraftTask}

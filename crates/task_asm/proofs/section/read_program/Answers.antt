@@ -1,7 +1,7 @@
 use Rattle.std.proofs.Common.{◌≡◌, ℕ, List, length, Ok, sym, ap, ◌∙◌, arith}
 use Rattle.ink_base.specs.Tokens.{AreTokens}
-use Rattle.ink_base.specs.TokenLines.{token_lines, with_words}
-use Rattle.ink_base.specs.Lines.{Line, lines, lines_of}
+use Rattle.ink_base.specs.TokenLines.{token_lines}
+use Rattle.ink_base.specs.Lines.{lines}
 use Rattle.ink_base.specs.declared.token.Token.{Token}
 use Rattle.ink_base.proofs.Failing.{Answers-same}
 use Rattle.ink_base.proofs.Sizes.{tokens_le, count_le}
