@@ -217,9 +217,9 @@ closed_places text tokens Between n i b stop h = rw (append-nil tokens) h.places
 closed_places text tokens Comment n i b stop h = rw (append-nil tokens) h.places
 closed_places text tokens (Word start) n i b stop h = elim (cases_Bool (ends_word b)) [
   | inl t ↦ rw t (stands_more text tokens (record { line = n; start = start; stop = stop }) h.places (record {
-      words = h.begun.0 ∙ sym (first_entries text tokens (Word start) n i h);
-      line = h.begun.1;
-    }))
+    words = h.begun.0 ∙ sym (first_entries text tokens (Word start) n i h);
+    line = h.begun.1;
+  }))
   | inr f ↦ rw (f, append-nil tokens) h.places
 ]
 

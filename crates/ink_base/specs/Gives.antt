@@ -7,14 +7,14 @@ use Rattle.ink_base.specs.declared.fault.JobAnswer.TheVariants as answers
 use Rattle.ink_base.specs.declared.line_error.LineError.{LineError}
 use Rattle.ink_base.specs.declared.line_error.LineError.TheVariants as errors
 
--- within a line: the first fault ends the reading
 infixl 10 ◌>>=◌
+-- within a line: the first fault ends the reading
 abbrev pub ◌>>=◌ : {A B : Type 0} → Result A Cause → (A → Result B Cause) → Result B Cause
 (Ok x) >>= f = f x
 (Err e) >>= f = Err e
 
--- from line to line: the first fault, with its line, ends the reading
 infixl 10 ◌>>◌
+-- from line to line: the first fault, with its line, ends the reading
 abbrev pub ◌>>◌ : {A B : Type 0} → Result A JobFault → (A → Result B JobFault) → Result B JobFault
 (Ok x) >> f = f x
 (Err e) >> f = Err e

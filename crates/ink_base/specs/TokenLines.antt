@@ -4,6 +4,7 @@ use Rattle.ink_base.specs.Lines.{Word, Line}
 use Rattle.ink_base.specs.Tokens.{Entry, entry_of}
 use Rattle.ink_base.specs.declared.token.Token.{Token}
 
+-- whether a line has a word
 abbrev pub has_words : List Word → Bool
 has_words [] = false
 has_words (w ∷ ws) = true

@@ -26,6 +26,7 @@ aimed tasks labels (drafts.Jz a target) = option_map (Jz a) (offset_of labels ta
 aimed tasks labels (drafts.Jnz a target) = option_map (Jnz a) (offset_of labels target)
 aimed tasks labels (drafts.Next task) = option_map Next (place_of task_name tasks task)
 
+-- an instruction whose target isn't there is the fault of its line
 abbrev pub unless_lost : ℕ → Option Instr → Result Instr JobFault
 unless_lost line None = Err (record { line = line; cause = BadTarget })
 unless_lost line (Some instr) = Ok instr
@@ -34,9 +35,11 @@ unless_lost line (Some instr) = Ok instr
 abbrev pub instr_of : List DraftTask → List (Word × ℕ) → DraftLine → Result Instr JobFault
 instr_of tasks labels l = unless_lost l.line (aimed tasks labels l.instr)
 
+-- the instructions of lines
 abbrev pub code_of : List DraftTask → List (Word × ℕ) → List DraftLine → Result (List Instr) JobFault
 code_of tasks labels code = each (instr_of tasks labels) code
 
+-- a task with its targets
 unfoldable pub task_of : List DraftTask → DraftTask → Result Task JobFault
 task_of tasks t = code_of tasks t.labels t.code >> (λ code. Ok (record { name = t.name; thread = t.thread; limit = t.limit; code = code }))
 

@@ -1,5 +1,5 @@
 -- Pipes and timers: their declarations, and how instructions name them.
-use Rattle.std.specs.Prelude.{ℕ, Bool, List, [], ◌∷◌, ◌++◌, length, Option, Some, None, Result, Ok, Err, ◌==◌, slice_index_or, codes, if◌then◌else◌}
+use Rattle.std.specs.Prelude.{ℕ, List, [], ◌∷◌, ◌++◌, length, Option, Some, None, Result, Ok, Err, ◌==◌, slice_index_or, codes, if◌then◌else◌}
 use Rattle.std.specs.Str.{bytes_eq}
 use Rattle.ink_base.specs.Lines.{Word}
 use Rattle.ink_base.specs.declared.fault.Cause.{Cause}
@@ -16,9 +16,11 @@ use Rattle.task_lines.specs.declared.draft.Draft.{Draft}
 use Rattle.task_lines.specs.Named.{new_name_in, declared_in}
 use Rattle.task_lines.specs.Forms.{room, thread_name}
 
+-- the name of a pipe
 abbrev pub pipe_name : PipeDef → Word
 pipe_name p = p.name
 
+-- the name of a timer
 abbrev pub timer_name : TimerDef → Word
 timer_name t = t.name
 
@@ -71,20 +73,20 @@ timer_line d ws = do
   start ← start_in thread.1
   Ok (record d { timers = d.timers ++ record { name = name.0; thread = record { 0 = thread.0 }; due = start.0; period = start.1 } ∷ [] })
 
-abbrev pub writes : ThreadId → List PipeDef → ℕ → Bool
-writes thread pipes q = (slice_index_or pipes q no_pipe_def).writer.0 == thread.0
-
-abbrev pub sets : ThreadId → List TimerDef → ℕ → Bool
-sets thread timers j = (slice_index_or timers j no_timer_def).thread.0 == thread.0
+-- what the thread has to own is its own
+abbrev pub owned_by : ThreadId → ThreadId → Result (Unit {0}) Cause
+owned_by thread owner = if owner.0 == thread.0 then Ok tt else Err BadOwner
 
 -- a pipe that the thread writes
 unfoldable pub own_pipe_in : List PipeDef → ThreadId → List Word → Result (ℕ × List Word) Cause
 own_pipe_in pipes thread ws = do
   pipe ← declared_in pipe_name pipes ws
-  if writes thread pipes pipe.0 then Ok pipe else Err BadOwner
+  own ← owned_by thread (slice_index_or pipes pipe.0 no_pipe_def).writer
+  Ok pipe
 
 -- a timer of the thread
 unfoldable pub own_timer_in : List TimerDef → ThreadId → List Word → Result (ℕ × List Word) Cause
 own_timer_in timers thread ws = do
   timer ← declared_in timer_name timers ws
-  if sets thread timers timer.0 then Ok timer else Err BadOwner
+  own ← owned_by thread (slice_index_or timers timer.0 no_timer_def).thread
+  Ok timer

@@ -15,9 +15,11 @@ use Rattle.task_lines.specs.Named.{new_name_in, declared_in}
 abbrev pub room : ℕ → ℕ → Result (Unit {0}) Cause
 room most count = if nat_lt count most then Ok tt else Err OverLimit
 
+-- the name of a thread
 abbrev pub thread_name : ThreadDef → Word
 thread_name t = t.name
 
+-- whether a thread has this priority
 abbrev pub has_priority : List ThreadDef → ℕ → Bool
 has_priority threads n = list_any (λ (t : ThreadDef). t.priority == n) threads
 

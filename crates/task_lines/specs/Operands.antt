@@ -30,6 +30,7 @@ register_of (r ∷ d ∷ []) = if r == 114 && is_digit d then Ok (d - 48) else E
 register_of (r ∷ t ∷ d ∷ []) = if r == 114 && t == 49 && nat_le 48 d && nat_le d 53 then Ok (d - 38) else Err UnknownWord
 register_of (r ∷ t ∷ d ∷ b ∷ w) = Err UnknownWord
 
+-- a register
 unfoldable pub register_in : List Word → Result (ℕ × List Word) Cause
 register_in ws = do
   w ← word_in ws

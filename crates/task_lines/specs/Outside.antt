@@ -13,6 +13,7 @@ use Rattle.task_lines.specs.Named.{new_name_in, declared_in}
 use Rattle.task_lines.specs.Forms.{room, thread_name, thread_line, source_line}
 use Rattle.task_lines.specs.Devices.{pipe_line, timer_line}
 
+-- the name of a task
 abbrev pub task_name : DraftTask → Word
 task_name t = t.name
 

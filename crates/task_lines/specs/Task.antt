@@ -41,6 +41,7 @@ end_line d task ws = do
   e ← end_in ws
   Ok (record d { tasks = d.tasks ++ task ∷ [] })
 
+-- a label where the line's first word is one, and else an instruction
 abbrev pub by_label : Draft → DraftTask → ℕ → Word → List Word → Option Word → Result Draft Cause
 by_label d task line w ws (Some name) = label_line d task name ws
 by_label d task line w ws None = instr_line d task line w ws
@@ -49,6 +50,7 @@ by_label d task line w ws None = instr_line d task line w ws
 unfoldable pub inside_line : Draft → DraftTask → ℕ → Word → List Word → Result Draft Cause
 inside_line d task line w ws = if bytes_eq w (codes "end") then end_line d task ws else by_label d task line w ws (label_of w)
 
+-- a line outside of tasks, or inside of the task that is open
 abbrev pub in_place : Option DraftTask → Draft → ℕ → Word → List Word → Result Draft Cause
 in_place None d line w ws = outside_line d line w ws
 in_place (Some task) d line w ws = inside_line d task line w ws

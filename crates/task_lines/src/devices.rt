@@ -1,10 +1,10 @@
 //! Pipes and timers: their declarations, and how instructions name them.
 
-ghost use Rattle.std.specs.Prelude.{◌≡◌, ◌<◌, length, OnOk};
+ghost use Rattle.std.specs.Prelude.{OnOk};
 ghost use Rattle.ink_base.specs.Checks.{words_of};
 ghost use Rattle.ink_base.specs.Gives.{Gives, Leaves};
 ghost use Rattle.task_lines.specs.Place.{HasPlace};
-ghost use Rattle.task_lines.specs.Devices.{reader_in, pipe_line, due_in, off_in, start_in, timer_line, writes, sets, own_pipe_in, own_timer_in};
+ghost use Rattle.task_lines.specs.Devices.{reader_in, pipe_line, due_in, off_in, start_in, timer_line, owned_by, own_pipe_in, own_timer_in};
 
 use crate::draft::Draft;
 use crate::few::Few;
@@ -119,18 +119,14 @@ pub fn read_timer(
     Ok(())
 }
 
-fn writes(thread: ThreadId, pipes: &[PipeDef], q: usize) -> bool
-    requires { q < length pipes.now }
-    ensures { result ≡ writes thread pipes.now q }
+fn demand_own(thread: ThreadId, owner: ThreadId) -> Result<(), LineError>
+    ensures { Gives (λ x. x) result (owned_by thread owner) }
 {
-    pipes[q].writer.0 == thread.0
-}
-
-fn sets(thread: ThreadId, timers: &[TimerDef], j: usize) -> bool
-    requires { j < length timers.now }
-    ensures { result ≡ sets thread timers.now j }
-{
-    timers[j].thread.0 == thread.0
+    if owner.0 == thread.0 {
+        Ok(())
+    } else {
+        Err(LineError::Fault(Cause::BadOwner))
+    }
 }
 
 /// The number of a pipe that the thread writes. Refused where it isn't there, `Missing`, not declared, `UnknownWord`, or another
@@ -145,9 +141,7 @@ pub fn own_pipe<'a>(
     ensures { Gives (λ x. (x.0, words_of text.now x.1.now)) result (own_pipe_in pipes.now thread (words_of text.now words.now)) }
 {
     let (q, rest) = declared(text, words, pipes.as_slice())?;
-    if !writes(thread, pipes.as_slice(), q) {
-        return Err(LineError::Fault(Cause::BadOwner));
-    }
+    demand_own(thread, pipes.as_slice()[q].writer)?;
     Ok((q as u32, rest))
 }
 
@@ -162,8 +156,6 @@ pub fn own_timer<'a>(
     ensures { Gives (λ x. (x.0, words_of text.now x.1.now)) result (own_timer_in timers.now thread (words_of text.now words.now)) }
 {
     let (j, rest) = declared(text, words, timers.as_slice())?;
-    if !sets(thread, timers.as_slice(), j) {
-        return Err(LineError::Fault(Cause::BadOwner));
-    }
+    demand_own(thread, timers.as_slice()[j].thread)?;
     Ok((j as u32, rest))
 }

@@ -1,5 +1,6 @@
 //! What is read of a text, and the first of some texts that has another fault than it should.
 
+use ink_base::limits::TEXT_BYTES;
 use ink_base::{Cause, JobAnswer, JobFault, NoMemory, job_tokens};
 use std::alloc::Global;
 use task_asm::read_program;
@@ -8,7 +9,7 @@ use task_isa::{Lines, Program};
 /// The program that a text begins with, the lines of its parts, and the number of words up to the next section.
 pub fn read(alloc: Global, text: &str) -> Result<(Program, Lines, u32), JobAnswer> {
     let bytes = text.as_bytes();
-    if bytes.len() > 4194304 {
+    if bytes.len() > TEXT_BYTES {
         return Err(JobAnswer::NoMemory);
     }
     let tokens = job_tokens(alloc, bytes)?;

@@ -1,7 +1,7 @@
 use Rattle.std.proofs.Common.{◌≡◌, ℕ, List, length, Ok, sym, ap, ◌∙◌, arith}
 use Rattle.ink_base.specs.Tokens.{AreTokens}
-use Rattle.ink_base.specs.TokenLines.{token_lines, with_words}
-use Rattle.ink_base.specs.Lines.{Line, lines, lines_of}
+use Rattle.ink_base.specs.TokenLines.{token_lines}
+use Rattle.ink_base.specs.Lines.{lines}
 use Rattle.ink_base.specs.declared.token.Token.{Token}
 use Rattle.ink_base.proofs.Failing.{Answers-same}
 use Rattle.ink_base.proofs.Sizes.{tokens_le, count_le}
@@ -18,8 +18,8 @@ same_program text tokens all count are same =
 pub program-requires : goal.program-requires
 program-requires c = omega (arith, c.requires.short, count_le c.args.text.now c.args.tokens.now.list.items c.args.tokens.now.lines c.requires.tokens)
 
-pub index_of-requires-few : goal.index_of-requires-few
-index_of-requires-few c = omega (arith, c.requires.short, tokens_le c.args.text.now c.args.tokens.now.list.items c.args.tokens.now.lines c.requires.tokens)
+pub index_of-requires-clause-few : goal.index_of-requires-clause-few
+index_of-requires-clause-few c = omega (arith, c.requires.short, tokens_le c.args.text.now c.args.tokens.now.list.items c.args.tokens.now.lines c.requires.tokens)
 
 pub returns-in-Ok-clause-given : goal.returns-in-Ok-clause-given
 returns-in-Ok-clause-given c =
