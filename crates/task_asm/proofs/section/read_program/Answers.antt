@@ -1,12 +1,12 @@
 use Rattle.std.proofs.Common.{◌≡◌, ℕ, List, length, Ok, sym, ap, ◌∙◌, arith}
-use Rattle.ink_base.specs.TokenLines.{token_lines, with_words}
-use Rattle.ink_base.specs.Lines.{Line, lines, lines_of}
-use Rattle.task_asm.specs.Section.{program_in, program_at}
 use Rattle.ink_base.specs.Tokens.{AreTokens}
+use Rattle.ink_base.specs.TokenLines.{token_lines}
+use Rattle.ink_base.specs.Lines.{lines}
 use Rattle.ink_base.specs.declared.token.Token.{Token}
 use Rattle.ink_base.proofs.Failing.{Answers-same}
 use Rattle.ink_base.proofs.Sizes.{tokens_le, count_le}
 use Rattle.ink_base.proofs.Whole.{whole_lines}
+use Rattle.task_asm.specs.Section.{program_in, program_at}
 use Rattle.task_asm.proofs.section.read_program.Goals as goal
 
 same_program : (text : List ℕ) (tokens all : List Token) (count : ℕ) → AreTokens text tokens count → all ≡ tokens → program_in count (token_lines text all) ≡ program_at text
