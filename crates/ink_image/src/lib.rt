@@ -6,4 +6,3 @@ mod writing;
 
 pub use reading::{WordsAnswer, read_words};
 pub use writing::write_image;
-

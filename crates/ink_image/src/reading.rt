@@ -8,9 +8,9 @@ ghost use Rattle.task_asm.specs.Section.{is_header};
 ghost use Rattle.ink_image.specs.declared.reading.WordsAnswer.TheVariants.{NoMemory as out_of_memory};
 ghost use Rattle.ink_image.specs.Reading.{is_digit, digit_value, is_word, value, said, line_entries, section_entries, read, Reads, ReadsOn};
 
+use ink_base::Token;
 use ink_base::checks::word;
 use ink_base::lines::split_line;
-use ink_base::Token;
 use std::alloc::{AllocError, AllocFailed, Global};
 
 /// Why a section gives no words.
