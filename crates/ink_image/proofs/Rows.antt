@@ -1,7 +1,6 @@
 -- Words in lines, and digits in words.
-use Rattle.std.proofs.Common.{◌≡◌, ◌≢◌, ℕ, zero, suc, ◌-◌, ◌/◌, ◌%◌, ◌<◌, eqb, false, min, List, [], ◌∷◌, ◌++◌, length, take, drop, refl, sym, ap, ◌∙◌, append_assoc, arith, append-nil}
-use Rattle.std.specs.List.{flat_map}
-use Rattle.ink_image.specs.Text.{digit_byte, line_text, digits, rows}
+use Rattle.ink_image.proofs.Common.{◌≡◌, ◌≢◌, ℕ, zero, suc, ◌-◌, ◌/◌, ◌%◌, ◌<◌, eqb, false, min, List, [], ◌∷◌, ◌++◌, length, take, drop, refl, sym, ap, ◌∙◌, append_assoc, arith, append-nil, flat_map, digit_byte, line_text}
+use Rattle.ink_image.specs.Text.{digits, rows}
 
 -- the first line, and the lines behind it
 rows_step : (rest : List ℕ) (n : ℕ) → eqb (length rest) 0 ≡ false → n ≡ min (length rest) 8 → rows rest ≡ take n rest ∷ rows (drop n rest)

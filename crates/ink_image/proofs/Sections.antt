@@ -1,11 +1,6 @@
 -- Words that are read one after the other.
-use Rattle.std.proofs.Common.{◌≡◌, ℕ, ◌+◌, ◌<◌, ◌≤◌, Bool, true, false, not, cond, List, [], ◌∷◌, ◌++◌, length, drop, get_or, Option, Some, None, Result, Ok, Err, refl, sym, ap, ◌∙◌, append_assoc, add-one, length-drop, arith, append-nil}
-use Rattle.std.specs.List.{flat_map}
-use Rattle.std.proofs.lemmas.List.{nil_from_length}
-use Rattle.ink_base.specs.Lines.{Word, Line}
-use Rattle.ink_base.specs.Checks.{words_of}
-use Rattle.task_asm.specs.Section.{is_header}
-use Rattle.ink_image.specs.Reading.{said, section_lines, line_entries, section_entries, onto, with_said, Reads, ReadsOn, read}
+use Rattle.ink_image.proofs.Common.{◌≡◌, ℕ, ◌+◌, ◌<◌, ◌≤◌, Bool, true, false, not, cond, List, [], ◌∷◌, ◌++◌, length, drop, get_or, Option, Some, None, Result, Ok, Err, refl, sym, ap, ◌∙◌, append_assoc, add-one, length-drop, arith, append-nil, flat_map, nil_from_length, Word, Line, words_of, is_header, said, section_lines, line_entries, section_entries, onto, with_said, Reads, ReadsOn}
+use Rattle.ink_image.specs.Reading.{read}
 use Rattle.std.proofs.Math.Seq.{drop-cons}
 use Rattle.std.proofs.lemmas.List.Sums.{take_while-cons}
 use Rattle.ink_base.specs.declared.token.Token.{Token}

@@ -1,13 +1,5 @@
 -- Every word of the board has an address below 100,000.
-use Rattle.std.proofs.Common.{◌≡◌, ◌<◌, arith}
-use Rattle.task_isa.specs.declared.program.Program.{Program}
-use Rattle.fram_words.specs.declared.layout.Layout.{Layout}
-use Rattle.fram_words.specs.Places.{Place}
-use Rattle.fram_words.specs.Shape.{address}
-use Rattle.prog_check.specs.Accepted.{IsAccepted}
-use Rattle.ink_layout.specs.Addresses.{layout_address}
-use Rattle.ink_layout.specs.Shape.{shape_of, words_of, IsOnBoard}
-use Rattle.ink_layout.specs.Layouts.{IsLayout}
+use Rattle.ink_layout.proofs.Common.{◌≡◌, ◌<◌, arith, Program, Layout, Place, address, IsAccepted, layout_address, shape_of, words_of, IsOnBoard, IsLayout}
 use Rattle.ink_layout.proofs.Regions.{below}
 use Rattle.ink_layout.proofs.Bounds.{few_words}
 

@@ -1,11 +1,5 @@
 -- An accepted program has fewer than 100,000 words.
-use Rattle.std.proofs.Common.{◌≡◌, ℕ, suc, ◌+◌, ◌*◌, ◌<◌, ◌≤◌, List, [], ◌∷◌, ◌++◌, length, map, get_or, refl, arith, sum_by}
-use Rattle.task_isa.specs.declared.program.ThreadDef.{ThreadDef}
-use Rattle.task_isa.specs.declared.program.Program.{Program}
-use Rattle.prog_check.specs.Lookup.{no_thread_def, no_pipe_def}
-use Rattle.prog_check.specs.Accepted.{IsAccepted, IsRightThread, IsRightPipe}
-use Rattle.fram_words.specs.Shape.{thread_regions, queue_regions, words_before}
-use Rattle.ink_layout.specs.Shape.{thread_shape, task_words, pipe_words, queue_words, shape_of, words_of}
+use Rattle.ink_layout.proofs.Common.{◌≡◌, ℕ, suc, ◌+◌, ◌*◌, ◌<◌, ◌≤◌, List, [], ◌∷◌, ◌++◌, length, map, get_or, refl, arith, sum_by, ThreadDef, Program, no_thread_def, no_pipe_def, IsAccepted, IsRightThread, IsRightPipe, thread_regions, queue_regions, words_before, thread_shape, task_words, pipe_words, queue_words, shape_of, words_of}
 use Rattle.std.proofs.lemmas.List.Sums.{sum_by-cons}
 use Rattle.task_isa.specs.declared.program.PipeDef.{PipeDef}
 use Rattle.task_isa.specs.declared.program.Task.{Task}

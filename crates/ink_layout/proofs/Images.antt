@@ -1,21 +1,5 @@
 -- The words of the board while the first image is made.
-use Rattle.std.proofs.Common.{◌≡◌, ℕ, ◌+◌, ◌-◌, ◌*◌, ◌/◌, ◌%◌, ◌<◌, ◌≤◌, ◌&&◌, true, false, cond, List, length, get_or, refl, ap, ◌∙◌, arith, inl, inr, length-set, ◌==◌, nat_lt, nat_le, replicate}
-use Rattle.std.proofs.lemmas.Bool.{cases_lt, cases_eq}
-use Rattle.std.proofs.lemmas.Bool.Decides.{nat_tests}
-use Rattle.std.proofs.lemmas.List.{get_or-replicate, get_or_past, length-replicate}
-use Rattle.task_isa.specs.declared.program.Program.{Program}
-use Rattle.prog_check.specs.Lookup.{timer_def}
-use Rattle.fram_words.specs.declared.layout.Layout.{Layout}
-use Rattle.fram_words.specs.Words.{performed, zeros}
-use Rattle.fram_words.specs.Places.{Place, Page, store}
-use Rattle.fram_words.specs.Held.{due_word}
-use Rattle.fram_words.specs.Shape.{is_valid, address, memory_of}
-use Rattle.fram_words.proofs.Addresses.{store_word}
-use Rattle.ink_layout.specs.Shape.{shape_of, words_of, IsOnBoard}
-use Rattle.ink_layout.specs.Addresses.{layout_address}
-use Rattle.ink_layout.specs.Layouts.{IsLayout}
-use Rattle.ink_layout.specs.Image.{timed_word, first_memory, Holds, IsFirstImage}
-use Rattle.ink_layout.specs.Stages.{code_until, with_blocks, put_word}
+use Rattle.ink_layout.proofs.Common.{◌≡◌, ℕ, ◌+◌, ◌-◌, ◌*◌, ◌/◌, ◌%◌, ◌<◌, ◌≤◌, ◌&&◌, true, false, cond, List, length, get_or, refl, ap, ◌∙◌, arith, inl, inr, length-set, ◌==◌, nat_lt, nat_le, replicate, cases_lt, cases_eq, nat_tests, get_or-replicate, get_or_past, length-replicate, Program, timer_def, Layout, performed, zeros, Place, Page, store, due_word, is_valid, address, memory_of, store_word, shape_of, words_of, IsOnBoard, layout_address, IsLayout, timed_word, first_memory, Holds, IsFirstImage, code_until, with_blocks, put_word}
 use Rattle.fram_words.specs.declared.access.Access.TheVariants as fram
 use Rattle.fram_words.specs.Header as header
 use Rattle.ink_layout.proofs.Regions.{valid, below}

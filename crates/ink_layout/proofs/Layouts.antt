@@ -1,14 +1,6 @@
 -- A layout of the starts of a program's regions is the program's.
-use Rattle.std.proofs.Common.{◌≡◌, ℕ, suc, ◌+◌, ◌*◌, ◌<◌, List, length, get_or, refl, ap, ◌∙◌, sym, arith}
-use Rattle.task_isa.specs.declared.program.Program.{Program}
-use Rattle.fram_words.specs.declared.layout.Layout.{Layout}
-use Rattle.fram_words.specs.Places.{Place, Code, Commit, Page, Log, Ring, Tail, Slot, Ack, Clock, Src}
-use Rattle.fram_words.specs.Shape.{regions, region, offset, words_before, address}
-use Rattle.std.proofs.lemmas.List.{length-map}
-use Rattle.ink_layout.specs.Shape.{task_words, shape_of, words_of, IsOnBoard}
-use Rattle.ink_layout.specs.Addresses.{layout_address}
-use Rattle.ink_layout.specs.Layouts.{IsLayout, AreStarts, IsMadeOf, sources_from}
-use Rattle.fram_words.proofs.Addresses.{before_next}
+use Rattle.ink_layout.proofs.Common.{◌≡◌, ℕ, suc, ◌+◌, ◌*◌, ◌<◌, List, length, get_or, refl, ap, ◌∙◌, sym, arith, Program, Layout, Place, Code, Commit, Page, Log, Ring, Tail, Slot, Ack, Clock, Src, regions, region, offset, words_before, length-map, task_words, shape_of, words_of, IsOnBoard, layout_address, IsLayout, AreStarts, IsMadeOf, sources_from, before_next}
+use Rattle.fram_words.specs.Shape.{address}
 use Rattle.fram_words.specs.declared.layout.ThreadPlace.{ThreadPlace}
 use Rattle.fram_words.specs.declared.layout.QueuePlace.{QueuePlace}
 use Rattle.ink_layout.proofs.Regions.{rest, in_rest, regions_count, region_number, region_is, region_there}

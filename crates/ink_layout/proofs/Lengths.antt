@@ -1,11 +1,5 @@
 -- The lengths of the regions of one more item.
-use Rattle.std.proofs.Common.{◌≡◌, ℕ, zero, suc, ◌+◌, ◌-◌, ◌*◌, ◌<◌, ◌≤◌, List, [], ◌∷◌, ◌++◌, length, map, take, get_or, refl, ap, ◌∙◌, sym, arith, length-append, inl, inr}
-use Rattle.std.proofs.lemmas.Bool.{cases_eq}
-use Rattle.std.proofs.lemmas.List.{get_or_append_left}
-use Rattle.task_isa.specs.declared.program.ThreadDef.{ThreadDef}
-use Rattle.fram_words.specs.Shape.{thread_regions, queue_regions, words_before}
-use Rattle.fram_words.proofs.Addresses.{before_next, before_further}
-use Rattle.ink_layout.specs.Shape.{pages_of, thread_shape, queue_words}
+use Rattle.ink_layout.proofs.Common.{◌≡◌, ℕ, zero, suc, ◌+◌, ◌-◌, ◌*◌, ◌<◌, ◌≤◌, List, [], ◌∷◌, ◌++◌, length, map, take, get_or, refl, ap, ◌∙◌, sym, arith, length-append, inl, inr, cases_eq, get_or_append_left, ThreadDef, thread_regions, queue_regions, words_before, before_next, before_further, pages_of, thread_shape, queue_words}
 
 pub blocks_more : (threads : List ThreadDef) (i n : ℕ) (d : ThreadDef) → n ≡ i + 1 → i < length threads → d ≡ get_or threads i d →
     thread_regions (map thread_shape (take n threads)) ≡ thread_regions (map thread_shape (take i threads)) ++ 1 ∷ 16 * pages_of d ∷ d.log ∷ []

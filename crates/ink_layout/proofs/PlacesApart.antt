@@ -1,13 +1,6 @@
 -- The words of a program's layout lie apart, and the private ones come first.
-use Rattle.std.proofs.Common.{◌≡◌, ◌<◌, ◌≤◌, true, false, sym, ◌∙◌, arith}
-use Rattle.task_isa.specs.declared.program.Program.{Program}
-use Rattle.fram_words.specs.declared.layout.Layout.{Layout}
-use Rattle.fram_words.specs.Places.{Place, Code, Commit, Page, Log, Ring, Tail, Slot, Ack, Clock, Src}
-use Rattle.fram_words.specs.Shape.{region, regions, words_before, address}
-use Rattle.fram_words.proofs.Addresses.{same_address}
-use Rattle.ink_layout.specs.Addresses.{layout_address}
-use Rattle.ink_layout.specs.Layouts.{IsLayout, queues_from}
-use Rattle.ink_layout.specs.Shape.{shape_of, words_of, IsOnBoard}
+use Rattle.ink_layout.proofs.Common.{◌≡◌, ◌<◌, ◌≤◌, true, false, sym, ◌∙◌, arith, Program, Layout, Place, Code, Commit, Page, Log, Ring, Tail, Slot, Ack, Clock, Src, region, regions, words_before, same_address, layout_address, IsLayout, queues_from, shape_of, words_of, IsOnBoard}
+use Rattle.fram_words.specs.Shape.{address}
 use Rattle.ink_layout.specs.Apart.{LieApart, LieWithin, AreDivided, is_shared}
 use Rattle.ink_layout.proofs.Regions.{valid, below, earlier, later, region_is}
 

@@ -1,14 +1,6 @@
 -- The places of a program's board are valid in its shape, and their addresses are below the number of its words.
-use Rattle.std.proofs.Common.{◌≡◌, inl, inr, ℕ, zero, suc, ◌+◌, ◌-◌, ◌*◌, ◌<◌, ◌≤◌, true, List, [], ◌∷◌, ◌++◌, length, map, get_or, refl, ap, ◌∙◌, arith, length-append, lt-ltb}
-use Rattle.std.proofs.lemmas.Bool.{cases_lt, and_from}
-use Rattle.std.proofs.lemmas.List.{length-map, get_or_past, get_or_append_left}
-use Rattle.task_isa.specs.declared.program.ThreadDef.{ThreadDef}
-use Rattle.task_isa.specs.declared.program.Program.{Program}
-use Rattle.prog_check.specs.Lookup.{no_thread_def, no_pipe_def, no_task_def}
-use Rattle.fram_words.specs.Places.{Place, Code, Commit, Page, Log, Ring, Tail, Slot, Ack, Clock, Src}
-use Rattle.fram_words.specs.Shape.{ThreadShape, thread_regions, queue_regions, regions, region, offset, has_indices, is_valid, words_before, address}
-use Rattle.fram_words.proofs.Addresses.{before_next, before_further}
-use Rattle.ink_layout.specs.Shape.{pages_of, thread_shape, task_words, pipe_words, queue_words, shape_of, words_of, IsOnBoard}
+use Rattle.ink_layout.proofs.Common.{◌≡◌, inl, inr, ℕ, zero, suc, ◌+◌, ◌-◌, ◌*◌, ◌<◌, ◌≤◌, true, List, [], ◌∷◌, ◌++◌, length, map, get_or, refl, ap, ◌∙◌, arith, length-append, lt-ltb, cases_lt, and_from, length-map, get_or_past, get_or_append_left, ThreadDef, Program, no_thread_def, no_pipe_def, no_task_def, Place, Code, Commit, Page, Log, Ring, Tail, Slot, Ack, Clock, Src, ThreadShape, thread_regions, queue_regions, regions, region, offset, has_indices, is_valid, words_before, before_next, before_further, pages_of, thread_shape, task_words, pipe_words, queue_words, shape_of, words_of, IsOnBoard}
+use Rattle.fram_words.specs.Shape.{address}
 
 -- an item of a list that is mapped
 pub at_map : {A : Type 0} (f : A → ℕ) (xs : List A) (d : A) (i : ℕ) → i < length xs → get_or (map f xs) i 0 ≡ f (get_or xs i d)

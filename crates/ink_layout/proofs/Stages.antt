@@ -1,13 +1,5 @@
 -- How the first image grows, word by word.
-use Rattle.std.proofs.Common.{◌≡◌, ℕ, ◌+◌, ◌*◌, ◌/◌, ◌%◌, ◌<◌, ◌&&◌, cond, length, refl, ap, arith, ◌==◌}
-use Rattle.std.proofs.lemmas.Bool.Decides.{nat_tests}
-use Rattle.task_isa.specs.declared.program.Program.{Program}
-use Rattle.task_isa.specs.Code.{word_of_instr}
-use Rattle.prog_check.specs.Lookup.{thread_def, task_def, instr_at}
-use Rattle.fram_words.specs.Places.{Place, Code, Page, Slot, store}
-use Rattle.ink_layout.specs.Shape.{IsOnBoard}
-use Rattle.ink_layout.specs.Image.{timed_word}
-use Rattle.ink_layout.specs.Stages.{comes_before, code_until, slots_until, with_blocks, put_word}
+use Rattle.ink_layout.proofs.Common.{◌≡◌, ℕ, ◌+◌, ◌*◌, ◌/◌, ◌%◌, ◌<◌, ◌&&◌, cond, length, refl, ap, arith, ◌==◌, nat_tests, Program, word_of_instr, thread_def, task_def, instr_at, Place, Code, Page, Slot, store, IsOnBoard, timed_word, comes_before, code_until, slots_until, with_blocks, put_word}
 use Rattle.push_core.specs.Slots.{empty_word}
 
 -- one more place of a row

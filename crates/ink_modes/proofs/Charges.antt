@@ -1,17 +1,5 @@
 -- The journal of a record, charge by charge.
-use Rattle.std.proofs.Common.{◌≡◌, ℕ, zero, suc, ◌+◌, ◌^◌, ◌<◌, List, [], ◌∷◌, ◌++◌, length, take, drop, get_or, sym, ap, ◌∙◌, subst, arith, All, append_assoc, length-append, take-append-drop, drop-cons, refl, append-nil}
-use Rattle.std.specs.List.{flat_map}
-use Rattle.std.proofs.lemmas.List.Folds.{length-flat_map-take}
-use Rattle.ink_base.specs.declared.entry.Entry.{Entry}
-use Rattle.task_isa.specs.declared.program.Program.{Program}
-use Rattle.job_parts.specs.Job.{JobParts, IsJob}
-use Rattle.never_cut.specs.declared.model.Model.{Model}
-use Rattle.never_cut.specs.Journal.{after, IsLegal}
-use Rattle.never_cut.specs.State.{open_model}
-use Rattle.never_cut.specs.Within.{HasRoom}
-use Rattle.kernel_core.specs.declared.charge_record.ChargeRecord.{ChargeRecord}
-use Rattle.kernel_core.proofs.JobMoves.{job_setup}
-use Rattle.ink_modes.specs.Run.{entries_of}
+use Rattle.ink_modes.proofs.Common.{◌≡◌, ℕ, zero, suc, ◌+◌, ◌^◌, ◌<◌, List, [], ◌∷◌, ◌++◌, length, take, drop, get_or, sym, ap, ◌∙◌, subst, arith, All, append_assoc, length-append, take-append-drop, drop-cons, refl, append-nil, flat_map, length-flat_map-take, Entry, Program, JobParts, IsJob, Model, after, IsLegal, open_model, HasRoom, ChargeRecord, job_setup, entries_of}
 use Rattle.std.proofs.lemmas.List.{take_more}
 use Rattle.std.proofs.lemmas.List.Concat.{get_or-flat_map, flat_map-append}
 use Rattle.never_cut.specs.declared.entered.Entered.{Entered}

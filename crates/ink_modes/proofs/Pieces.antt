@@ -1,12 +1,5 @@
 -- What is asked for by pieces, one after another, is what they say in any order.
-use Rattle.std.proofs.Common.{◌≡◌, IfSome, sym, ◌∙◌, ℕ, Bool, true, false, List, [], ◌∷◌, map, filter, Option, Some, None, if◌then◌else◌, ap, subst, refl}
-use Rattle.std.specs.List.{filter_map, cons_option}
-use Rattle.ink_base.specs.Lines.{Word}
-use Rattle.ink_modes.specs.declared.command.Command.{Command}
-use Rattle.ink_modes.specs.declared.words.Asked.{Asked}
-use Rattle.ink_modes.specs.Words.{pieces, piece_said, named_in, seed_in, is_journal, is_json, is_bounds, is_image, once, IsCommand}
-use Rattle.ink_modes.specs.modes.{form_of}
-use Rattle.ink_modes.specs.kept.Asked.{nothing, asked_from}
+use Rattle.ink_modes.proofs.Common.{◌≡◌, IfSome, sym, ◌∙◌, ℕ, Bool, true, false, List, [], ◌∷◌, map, filter, Option, Some, None, if◌then◌else◌, ap, subst, refl, filter_map, cons_option, Word, Command, Asked, pieces, piece_said, named_in, seed_in, is_journal, is_json, is_bounds, is_image, once, IsCommand, form_of, nothing, asked_from}
 use Rattle.ink_modes.specs.declared.modes.Mode.{Mode}
 use Rattle.ink_modes.specs.declared.words.Piece.{Piece}
 use Rattle.ink_modes.specs.declared.words.Piece.TheVariants.{Named, Journal, Json, Bounds, Image, Seed}

@@ -1,16 +1,5 @@
 -- What a record of a whole run tells.
-use Rattle.std.proofs.Common.{◌≡◌, ℕ, ◌^◌, ◌<◌, List, length, sym, ap, ◌∙◌, subst}
-use Rattle.std.specs.List.{flat_map}
-use Rattle.ink_base.specs.declared.entry.Entry.{Entry}
-use Rattle.job_parts.specs.Job.{JobParts, IsJob}
-use Rattle.never_cut.specs.State.{open_model}
-use Rattle.never_cut.specs.Journal.{IsLegal}
-use Rattle.kernel_core.specs.declared.run_record.RunRecord.{RunRecord}
-use Rattle.kernel_core.specs.declared.charge_record.ChargeRecord.{ChargeRecord}
-use Rattle.kernel_core.specs.Board.{journal}
-use Rattle.kernel_core.specs.Core.{setup_of}
-use Rattle.kernel_core.proofs.JobMoves.{job_setup, job_prefixes_stand}
-use Rattle.ink_modes.specs.Run.{board_run, entries_of, journal_in, IsRunOf}
+use Rattle.ink_modes.proofs.Common.{◌≡◌, ℕ, ◌^◌, ◌<◌, List, length, sym, ap, ◌∙◌, subst, flat_map, Entry, JobParts, IsJob, open_model, IsLegal, RunRecord, ChargeRecord, journal, setup_of, job_setup, job_prefixes_stand, board_run, entries_of, journal_in, IsRunOf}
 use Rattle.ink_layout.specs.Image.{IsFirstImage}
 use Rattle.never_cut.specs.Start.{CanStart}
 use Rattle.never_cut.proofs.Settled.{readings_in_order}

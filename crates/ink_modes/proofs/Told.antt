@@ -1,10 +1,5 @@
 -- What a call tells of its words, from what its command tells.
-use Rattle.std.proofs.Common.{◌≡◌, ◌⊎◌, inl, inr, IfSome, ℕ, ◌+◌, ◌≤◌, Option, Some, None, Ok, Err, List, ◌++◌, length, length-append, refl, sym, ap, ◌∙◌, subst, arith, append-nil}
-use Rattle.ink_base.specs.Lines.{Word}
-use Rattle.job_parts.specs.Job.{JobParts}
-use Rattle.ink_modes.specs.declared.command.Command.{Command}
-use Rattle.ink_modes.specs.modes.{form_of}
-use Rattle.ink_modes.specs.Words.{IsCommand}
+use Rattle.ink_modes.proofs.Common.{◌≡◌, ◌⊎◌, inl, inr, IfSome, ℕ, ◌+◌, ◌≤◌, Option, Some, None, Ok, Err, List, ◌++◌, length, length-append, refl, sym, ap, ◌∙◌, subst, arith, append-nil, Word, JobParts, Command, form_of, IsCommand}
 use Rattle.std.specs.Io.KnownBytes.{Consumes, IsAtEnd}
 use Rattle.ink_base.specs.declared.fault.JobFault.{JobFault}
 use Rattle.ink_base.specs.declared.status.Status.{Status}

@@ -1,20 +1,5 @@
 -- A core that begins again in the memory that is there.
-use Rattle.std.proofs.Common.{◌≡◌, ℕ, zero, suc, List, [], ◌∷◌, length, map, get_or, refl, sym, ap, ◌∙◌, subst}
-use Rattle.std.proofs.lemmas.List.{length-map}
-use Rattle.fram_words.specs.declared.layout.Layout.{Layout}
-use Rattle.ink_layout.specs.Image.{IsFirstImage}
-use Rattle.push_core.specs.Table.{first_row}
-use Rattle.push_core.specs.declared.pusher.Pusher.{Pusher}
-use Rattle.job_parts.specs.Job.{JobParts, IsJob}
-use Rattle.kernel_core.specs.declared.kernel.Kernel.{Kernel}
-use Rattle.kernel_core.specs.Kernel.{first_kernel}
-use Rattle.kernel_core.specs.Record.{not_begun}
-use Rattle.kernel_core.specs.Board.{Board, first_board}
-use Rattle.kernel_core.specs.First.{StandsFirst}
-use Rattle.kernel_core.specs.Core.{setup_of}
-use Rattle.kernel_core.specs.kept.Recorded.{Recorded, emptied}
-use Rattle.kernel_core.specs.kept.Cores.{IsCore, row_in, charge_in, rebooted, none_recorded, no_pusher}
-use Rattle.kernel_core.specs.kept.Starts.{IsFirstRecord, AreFirstPushers, AreFirstRecords}
+use Rattle.kernel_core.proofs.Common.{◌≡◌, ℕ, zero, suc, List, [], ◌∷◌, length, map, get_or, refl, sym, ap, ◌∙◌, subst, length-map, Layout, IsFirstImage, first_row, Pusher, JobParts, IsJob, Kernel, first_kernel, not_begun, Board, first_board, StandsFirst, setup_of, Recorded, emptied, IsCore, row_in, charge_in, rebooted, none_recorded, no_pusher, IsFirstRecord, AreFirstPushers, AreFirstRecords}
 use Rattle.kernel_core.proofs.CoreSteps.{records_count}
 use Rattle.kernel_core.proofs.JobMoves.{job_first}
 use Rattle.kernel_core.proofs.Starts.{first_core, first_fields}

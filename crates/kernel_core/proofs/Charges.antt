@@ -1,10 +1,5 @@
 -- A journal over charges: an entry is noted in the charge at hand.
-use Rattle.std.proofs.Common.{◌≡◌, ◌≢◌, ℕ, zero, suc, ◌-◌, ◌<◌, ◌≤◌, List, [], ◌∷◌, ◌++◌, length, set, Option, Some, None, refl, sym, ap, ◌∙◌, subst, arith, append-nil, append_assoc, get_or-set_other}
-use Rattle.ink_base.specs.declared.entry.Entry.{Entry}
-use Rattle.never_cut.specs.Journal.{noted}
-use Rattle.kernel_core.specs.Record.{ChargeRecord, journal_of, charge_of, not_begun}
-use Rattle.kernel_core.specs.Board.{Setup, Board, journal, charged}
-use Rattle.kernel_core.specs.kept.Holds.{HasSize}
+use Rattle.kernel_core.proofs.Common.{◌≡◌, ◌≢◌, ℕ, zero, suc, ◌-◌, ◌<◌, ◌≤◌, List, [], ◌∷◌, ◌++◌, length, set, Option, Some, None, refl, sym, ap, ◌∙◌, subst, arith, append-nil, append_assoc, get_or-set_other, Entry, noted, ChargeRecord, journal_of, charge_of, not_begun, Setup, Board, journal, charged, HasSize}
 
 noted-behind : (xs ys : List Entry) (o : Option Entry) → xs ++ noted ys o ≡ noted (xs ++ ys) o
 noted-behind xs ys None = refl

@@ -1,18 +1,5 @@
 -- What a commit leaves of queues and sources: a queue whose event is finished, or all as it was.
-use Rattle.std.proofs.Common.{◌≡◌, ℕ, ◌+◌, ◌<◌, Bool, true, false, List, length, get_or, set, Option, Some, None, refl, sym, ap, ◌∙◌, subst, inl, inr, get_or-set_same, get_or-set_other, ◌||◌, if◌then◌else◌}
-use Rattle.std.proofs.lemmas.Bool.{cases_eq}
-use Rattle.ink_base.specs.declared.event.Event.{Event}
-use Rattle.task_isa.specs.declared.program.Program.{Program}
-use Rattle.push_core.specs.Queue.{with_finished}
-use Rattle.never_cut.specs.declared.model.Model.{Model}
-use Rattle.never_cut.specs.declared.thread_model.ThreadModel.{ThreadModel}
-use Rattle.never_cut.specs.declared.scan_model.ScanModel.{ScanModel}
-use Rattle.never_cut.specs.State.{thread_of, queue_of, source_in, is_running, no_thread, no_source}
-use Rattle.never_cut.specs.Pending.{pending}
-use Rattle.never_cut.specs.kept.Picked.{IsPicked}
-use Rattle.never_cut.specs.Commit.{commit, committed, consumed, ended, end_at, expired, expired_after, is_expired, is_of_queue, thread_after, with_end, with_first}
-use Rattle.fram_words.specs.Places.{Memory}
-use Rattle.kernel_core.specs.Views.{sides_of}
+use Rattle.kernel_core.proofs.Common.{◌≡◌, ℕ, ◌+◌, ◌<◌, Bool, true, false, List, length, get_or, set, Option, Some, None, refl, sym, ap, ◌∙◌, subst, inl, inr, get_or-set_same, get_or-set_other, ◌||◌, if◌then◌else◌, cases_eq, Event, Program, with_finished, Model, ThreadModel, ScanModel, thread_of, queue_of, source_in, is_running, no_thread, no_source, pending, IsPicked, commit, committed, consumed, ended, end_at, expired, expired_after, is_expired, is_of_queue, thread_after, with_end, with_first, Memory, sides_of}
 use Rattle.std.proofs.Math.Path.{fun_ext}
 use Rattle.task_isa.specs.declared.outcome.Outcome.{Outcome}
 use Rattle.task_isa.specs.declared.outcome.Outcome.TheVariants as outcomes

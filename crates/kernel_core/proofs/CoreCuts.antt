@@ -1,23 +1,5 @@
 -- A cut on the fields of a core.
-use Rattle.std.proofs.Common.{◌≡◌, ◌≢◌, inl, inr, ℕ, zero, suc, ◌+◌, ◌-◌, ◌<◌, ◌≤◌, ◌^◌, List, [], ◌∷◌, length, map, replicate, get_or, set, slice_index, refl, sym, ap, ◌∙◌, subst, arith, get_or-set_same, get_or-set_other}
-use Rattle.std.proofs.lemmas.Bool.{cases_eq, cases_lt}
-use Rattle.std.proofs.lemmas.List.{length-map, get_or_read, get_or_past, get_or-replicate, length-replicate}
-use Rattle.fram_words.specs.Shape.{address}
-use Rattle.fram_words.specs.declared.layout.Layout.{Layout}
-use Rattle.fram_words.specs.Words.{performed}
-use Rattle.push_core.specs.Table.{first_row}
-use Rattle.push_core.specs.declared.pusher.Pusher.{Pusher}
-use Rattle.job_parts.specs.Job.{JobParts}
-use Rattle.kernel_core.specs.declared.kernel.Kernel.{Kernel}
-use Rattle.kernel_core.specs.Kernel.{first_kernel}
-use Rattle.kernel_core.specs.Record.{ChargeRecord, charge_of, not_begun, begun}
-use Rattle.kernel_core.specs.kept.Recorded.{Recorded, KeepsRoom}
-use Rattle.never_cut.specs.Within.{Lasts}
-use Rattle.never_cut.proofs.Lasting.{lasts_less}
-use Rattle.kernel_core.specs.Board.{Board, shape, cut}
-use Rattle.kernel_core.specs.Stands.{state}
-use Rattle.kernel_core.specs.Core.{setup_of, turns_in}
-use Rattle.kernel_core.specs.kept.Cores.{IsCore, AreRecords, CanCount, StaysInRange, charge_in, row_in, rebooted, none_recorded, no_pusher, turns_from}
+use Rattle.kernel_core.proofs.Common.{◌≡◌, ◌≢◌, inl, inr, ℕ, zero, suc, ◌+◌, ◌-◌, ◌<◌, ◌≤◌, ◌^◌, List, [], ◌∷◌, length, map, replicate, get_or, set, slice_index, refl, sym, ap, ◌∙◌, subst, arith, get_or-set_same, get_or-set_other, cases_eq, cases_lt, length-map, get_or_read, get_or_past, get_or-replicate, length-replicate, address, Layout, performed, first_row, Pusher, JobParts, Kernel, first_kernel, ChargeRecord, charge_of, not_begun, begun, Recorded, KeepsRoom, Lasts, lasts_less, Board, shape, cut, state, setup_of, turns_in, IsCore, AreRecords, CanCount, StaysInRange, charge_in, row_in, rebooted, none_recorded, no_pusher, turns_from}
 use Rattle.fram_words.specs.Places as places
 use Rattle.fram_words.specs.declared.access.Access.TheVariants as fram
 use Rattle.kernel_core.proofs.CoreJobs.{turns_split}

@@ -1,11 +1,5 @@
 -- The turns that a charge lists.
-use Rattle.std.proofs.Common.{◌≡◌, ℕ, zero, suc, ◌+◌, ◌<◌, ◌≤◌, List, [], ◌∷◌, length, take, get_or, sum_by, refl, ap, arith}
-use Rattle.std.proofs.lemmas.List.{get_or_read}
-use Rattle.std.proofs.lemmas.List.Sums.{sum_by-take-drop, sum_by-drop_more}
-use Rattle.job_parts.specs.declared.charge.Charge.{Charge}
-use Rattle.job_parts.specs.Job.{JobParts, IsJob, item_turns, charge_turns}
-use Rattle.kernel_core.specs.Core.{no_charge, turns_in}
-use Rattle.kernel_core.specs.kept.Cores.{turns_from}
+use Rattle.kernel_core.proofs.Common.{◌≡◌, ℕ, zero, suc, ◌+◌, ◌<◌, ◌≤◌, List, [], ◌∷◌, length, take, get_or, sum_by, refl, ap, arith, get_or_read, sum_by-take-drop, sum_by-drop_more, Charge, JobParts, IsJob, item_turns, charge_turns, no_charge, turns_in, turns_from}
 
 -- no more turns stand in the charges from one on than in all
 pub turns_few : (job : JobParts) (k : ℕ) → IsJob job → turns_from job k ≤ 4194304

@@ -1,17 +1,6 @@
 -- The moves of a run, one after another.
-use Rattle.std.proofs.Common.{◌≡◌, ℕ, zero, suc, ◌+◌, ◌<◌, List, [], ◌∷◌, ◌++◌, length, take, drop, replicate, get_or, refl, sym, ap, ◌∙◌, subst, arith}
-use Rattle.std.specs.List.{flat_map}
-use Rattle.std.proofs.lemmas.List.{take_more, flat_map_more}
-use Rattle.std.proofs.lemmas.List.Elements.{All-get_or}
-use Rattle.std.proofs.lemmas.List.Sums.{sum_by-drop_more}
-use Rattle.ink_base.specs.declared.actor.Actor.{Actor}
-use Rattle.job_parts.specs.declared.charge.Charge.{Charge}
-use Rattle.job_parts.specs.declared.item.Item.{Item}
-use Rattle.job_parts.specs.Job.{JobParts, IsJob, IsRightCharge, item_turns, IsOnBoard}
-use Rattle.kernel_core.specs.Board.{Setup, Board, Move, Turn, turn, move, moved_by}
-use Rattle.kernel_core.specs.Listed.{turns_of, moves_of}
-use Rattle.kernel_core.specs.Moves.{IsActor}
-use Rattle.kernel_core.specs.Core.{setup_of, charge_def, no_charge, no_item}
+use Rattle.kernel_core.proofs.Common.{◌≡◌, ℕ, zero, suc, ◌+◌, ◌<◌, List, [], ◌∷◌, ◌++◌, length, take, drop, replicate, get_or, refl, sym, ap, ◌∙◌, subst, arith, flat_map, take_more, flat_map_more, All-get_or, sum_by-drop_more, Actor, Charge, Item, JobParts, IsJob, IsRightCharge, item_turns, Setup, Board, Move, Turn, turn, move, moved_by, turns_of, moves_of, IsActor, setup_of, charge_def, no_charge, no_item}
+use Rattle.job_parts.specs.Job.{IsOnBoard}
 use Rattle.ink_base.specs.declared.actor.Actor.TheVariants as actors
 
 pub moved_append : (s : Setup) (b : Board) (xs ys : List Move) → moved_by s b (xs ++ ys) ≡ moved_by s (moved_by s b xs) ys

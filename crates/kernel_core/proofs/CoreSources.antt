@@ -1,34 +1,6 @@
 -- A source's turn on the fields of a core.
-use Rattle.std.proofs.Common.{◌≡◌, inl, inr, ℕ, zero, suc, ◌+◌, ◌-◌, ◌<◌, ◌≤◌, ◌^◌, cond, List, [], ◌∷◌, length, map, get_or, set, slice_index, Option, Some, refl, sym, ap, ◌∙◌, subst, arith, length-set, get_or-set_same, get_or-set_other}
-use Rattle.std.proofs.lemmas.Bool.{cases_eq, cases_lt}
-use Rattle.std.proofs.lemmas.List.{length-map, get_or_read, get_or_past}
-use Rattle.ink_base.specs.declared.entry.Entry.{Entry}
-use Rattle.fram_words.specs.Places.{place_of, answer}
-use Rattle.fram_words.specs.declared.access.Access.{Access}
-use Rattle.fram_words.specs.declared.layout.Layout.{Layout}
-use Rattle.fram_words.specs.Words.{performed, address_of, FitsWords}
-use Rattle.fram_words.specs.Accesses.{at_address}
-use Rattle.fram_words.proofs.Accesses.{finds_there, address_same}
-use Rattle.ink_layout.specs.Shape.{IsOnBoard}
-use Rattle.ink_layout.proofs.Regions.{valid, below}
-use Rattle.never_cut.specs.Entries.{readings_of}
-use Rattle.push_core.specs.Table.{first_row, take_of, point_of, want_of, IsLeft, IsFew, IsRowFor, IsAnswer, access_of}
-use Rattle.push_core.specs.declared.row.Row.{Row}
-use Rattle.push_core.specs.declared.stage.Stage.{Stage}
-use Rattle.push_core.specs.declared.stage.Stage.TheVariants.{LoadSrc, LoadSlots, LoadAck, LoadTail, LoadSlot, Publish, MoveTail, HelpTail, StoreSkip, StoreAccepted}
-use Rattle.push_core.specs.declared.pusher.Pusher.{Pusher}
-use Rattle.push_core.specs.declared.point.Point.{Point}
-use Rattle.job_parts.specs.Job.{JobParts}
-use Rattle.source_laws.specs.Rows.{access, port_of}
-use Rattle.source_laws.proofs.Ports.{access_of-port}
-use Rattle.kernel_core.specs.Record.{ChargeRecord, with_source}
-use Rattle.kernel_core.specs.kept.Recorded.{Recorded, KeepsRoom}
-use Rattle.kernel_core.specs.Board.{Setup, Board, shape, sides, finds, charged, row_of, source_access, source_made, source_turn, entry_of_source}
-use Rattle.kernel_core.specs.Views.{seen}
-use Rattle.kernel_core.specs.Stands.{memory, state}
-use Rattle.kernel_core.specs.Made.{access_made}
-use Rattle.kernel_core.specs.Core.{setup_of}
-use Rattle.kernel_core.specs.kept.Cores.{IsCore, IsPusher, CanCount, charge_in, row_in, none_recorded, no_pusher}
+use Rattle.kernel_core.proofs.Common.{◌≡◌, inl, inr, ℕ, zero, suc, ◌+◌, ◌-◌, ◌<◌, ◌≤◌, ◌^◌, cond, List, [], ◌∷◌, length, map, get_or, set, slice_index, Option, Some, refl, sym, ap, ◌∙◌, subst, arith, length-set, get_or-set_same, get_or-set_other, cases_eq, cases_lt, length-map, get_or_read, get_or_past, Entry, place_of, answer, Access, Layout, performed, address_of, FitsWords, at_address, finds_there, address_same, IsOnBoard, valid, below, readings_of, first_row, take_of, point_of, want_of, IsLeft, IsFew, IsRowFor, IsAnswer, Row, Stage, LoadSrc, LoadSlots, LoadAck, LoadTail, LoadSlot, Publish, MoveTail, HelpTail, StoreSkip, StoreAccepted, Pusher, Point, JobParts, access, port_of, access_of-port, ChargeRecord, with_source, Recorded, KeepsRoom, Setup, Board, shape, sides, finds, charged, row_of, source_access, source_made, source_turn, entry_of_source, seen, memory, state, access_made, setup_of, IsCore, IsPusher, CanCount, charge_in, row_in, none_recorded, no_pusher}
+use Rattle.push_core.specs.Table.{access_of}
 use Rattle.source_laws.proofs.Fits.{row_fits, answer_fits}
 use Rattle.kernel_core.proofs.Sides.{within}
 use Rattle.kernel_core.proofs.SourcePlaces.{source_on}

@@ -1,39 +1,5 @@
 -- The turns of the kernel and the clock on the fields of a core.
-use Rattle.std.proofs.Common.{◌≡◌, ◌≢◌, inl, inr, ℕ, zero, suc, ◌+◌, ◌-◌, ◌<◌, ◌≤◌, ◌^◌, List, [], ◌∷◌, length, map, get_or, set, slice_index, Option, Some, refl, sym, ap, ◌∙◌, subst, arith, get_or-set_same, get_or-set_other}
-use Rattle.std.proofs.lemmas.Bool.{cases_eq}
-use Rattle.std.proofs.lemmas.List.{length-map, get_or_read}
-use Rattle.ink_base.specs.declared.entry.Entry.{Entry}
-use Rattle.fram_words.specs.Places.{Memory, answer, place_of}
-use Rattle.fram_words.specs.Shape.{address}
-use Rattle.fram_words.specs.declared.access.Access.{Access}
-use Rattle.fram_words.specs.declared.layout.Layout.{Layout}
-use Rattle.fram_words.specs.Words.{performed, address_of, FitsWords}
-use Rattle.fram_words.specs.Accesses.{at_address}
-use Rattle.fram_words.proofs.Accesses.{finds_there, word_there, address_same}
-use Rattle.task_isa.specs.declared.program.Program.{Program}
-use Rattle.ink_layout.specs.Addresses.{at_layout}
-use Rattle.ink_layout.specs.Layouts.{IsLayout}
-use Rattle.ink_layout.specs.Points.{entry_of_point}
-use Rattle.ink_layout.specs.Shape.{IsOnBoard}
-use Rattle.ink_layout.proofs.Regions.{valid, below}
-use Rattle.never_cut.specs.declared.model.Model.{Model}
-use Rattle.never_cut.specs.kept.Actors.{IsAllowed}
-use Rattle.never_cut.specs.Within.{Lasts}
-use Rattle.never_cut.proofs.Lasting.{lasts_less}
-use Rattle.push_core.specs.declared.pusher.Pusher.{Pusher}
-use Rattle.job_parts.specs.Job.{JobParts}
-use Rattle.priority_sched.proofs.Ranges.{scan_in_range}
-use Rattle.task_run.proofs.Ranges.{every_task_fits}
-use Rattle.kernel_core.specs.declared.kernel.Kernel.{Kernel}
-use Rattle.kernel_core.specs.Kernel.{wants, takes, point_found}
-use Rattle.kernel_core.specs.Record.{ChargeRecord, charge_of, with_kernel, with_tick}
-use Rattle.kernel_core.specs.kept.Recorded.{Recorded, KeepsRoom}
-use Rattle.kernel_core.specs.Board.{Setup, Board, shape, finds, charged, kernel_access, kernel_turn, clock_turn, turn}
-use Rattle.kernel_core.specs.Stands.{BoardStands, memory, state}
-use Rattle.kernel_core.specs.kept.Holds.{Holds}
-use Rattle.kernel_core.specs.Made.{kernel_made, clock_made}
-use Rattle.kernel_core.specs.Core.{setup_of, turns_in}
-use Rattle.kernel_core.specs.kept.Cores.{IsCore, IsPusher, AreRecords, CanCount, StaysInRange, charge_in, row_in, none_recorded, no_pusher, turns_from}
+use Rattle.kernel_core.proofs.Common.{◌≡◌, ◌≢◌, inl, inr, ℕ, zero, suc, ◌+◌, ◌-◌, ◌<◌, ◌≤◌, ◌^◌, List, [], ◌∷◌, length, map, get_or, set, slice_index, Option, Some, refl, sym, ap, ◌∙◌, subst, arith, get_or-set_same, get_or-set_other, cases_eq, length-map, get_or_read, Entry, Memory, answer, place_of, address, Access, Layout, performed, address_of, FitsWords, at_address, finds_there, word_there, address_same, Program, at_layout, IsLayout, entry_of_point, IsOnBoard, valid, below, Model, IsAllowed, Lasts, lasts_less, Pusher, JobParts, scan_in_range, every_task_fits, Kernel, wants, takes, point_found, ChargeRecord, charge_of, with_kernel, with_tick, Recorded, KeepsRoom, Setup, Board, shape, finds, charged, kernel_access, kernel_turn, clock_turn, turn, BoardStands, memory, state, Holds, kernel_made, clock_made, setup_of, turns_in, IsCore, IsPusher, AreRecords, CanCount, StaysInRange, charge_in, row_in, none_recorded, no_pusher, turns_from}
 use Rattle.fram_words.specs.Places as places
 use Rattle.fram_words.specs.declared.access.Access.TheVariants as fram
 use Rattle.reboot.proofs.Ranges.{boot_in_range}

@@ -1,35 +1,5 @@
 -- A turn of the clock and a cut keep what holds.
-use Rattle.std.proofs.Common.{◌≡◌, ◌⊎◌, inl, inr, ℕ, suc, ◌+◌, ◌-◌, ◌<◌, ◌^◌, List, length, get_or, set, replicate, Some, refl, sym, ap, ◌∙◌, subst, arith, length-set}
-use Rattle.std.proofs.lemmas.Bool.{cases_lt}
-use Rattle.std.proofs.lemmas.List.{length-replicate, get_or-replicate, get_or_past}
-use Rattle.ink_base.specs.declared.entry.Entry.{Entry}
-use Rattle.ink_base.specs.declared.entry.Entry.TheVariants.{Tick}
-use Rattle.fram_words.specs.Places.{Clock, Memory, perform, Add}
-use Rattle.fram_words.specs.Shape.{memory_of}
-use Rattle.fram_words.specs.Words.{performed}
-use Rattle.fram_words.proofs.Frames.{store-same}
-use Rattle.fram_words.proofs.Accesses.{performed_there, performed_length}
-use Rattle.ink_layout.proofs.Regions.{valid, below}
-use Rattle.push_core.specs.declared.row.Row.{Row}
-use Rattle.push_core.specs.Table.{first_row}
-use Rattle.source_laws.specs.kept.Kept.{Kept}
-use Rattle.source_laws.proofs.Steps.{kept_step}
-use Rattle.never_cut.specs.declared.model.Model.{Model}
-use Rattle.never_cut.specs.Journal.{after, moved, noted}
-use Rattle.never_cut.specs.Within.{Lasts}
-use Rattle.never_cut.proofs.Journals.{after-noted}
-use Rattle.never_cut.specs.Stands.{StandsPrivate}
-use Rattle.never_cut.specs.kept.Steps.{Background}
-use Rattle.never_cut.specs.kept.Actors.{SamePrivate, IsPrivate}
-use Rattle.never_cut.proofs.Follows.{follow_private}
-use Rattle.reboot.proofs.Boots.{boot_begins}
-use Rattle.kernel_core.specs.Kernel.{first_kernel}
-use Rattle.kernel_core.specs.Record.{ChargeRecord, charge_of, journal_of, begun, with_tick}
-use Rattle.kernel_core.specs.Board.{Setup, Board, shape, sides, journal, clock_access, clock_turn, cut, row_of}
-use Rattle.kernel_core.specs.Views.{seen}
-use Rattle.kernel_core.specs.First.{IsSetup}
-use Rattle.kernel_core.specs.Stands.{memory, state}
-use Rattle.kernel_core.specs.kept.Holds.{KernelHolds, HasSize, Holds}
+use Rattle.kernel_core.proofs.Common.{◌≡◌, ◌⊎◌, inl, inr, ℕ, suc, ◌+◌, ◌-◌, ◌<◌, ◌^◌, List, length, get_or, set, replicate, Some, refl, sym, ap, ◌∙◌, subst, arith, length-set, cases_lt, length-replicate, get_or-replicate, get_or_past, Entry, Tick, Clock, Memory, perform, Add, memory_of, performed, store-same, performed_there, performed_length, valid, below, Row, first_row, Kept, kept_step, Model, after, moved, noted, Lasts, after-noted, StandsPrivate, Background, SamePrivate, IsPrivate, follow_private, boot_begins, first_kernel, ChargeRecord, charge_of, journal_of, begun, with_tick, Setup, Board, shape, sides, journal, clock_access, clock_turn, cut, row_of, seen, IsSetup, memory, state, KernelHolds, HasSize, Holds}
 use Rattle.source_laws.specs.Steps as steps
 use Rattle.kernel_core.proofs.Sides.{within, shared_of}
 use Rattle.kernel_core.proofs.Quiet.{quiet, perform_other}

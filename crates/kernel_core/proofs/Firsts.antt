@@ -1,37 +1,5 @@
 -- The first board holds.
-use Rattle.std.proofs.Common.{◌≡◌, inl, inr, ℕ, zero, suc, ◌+◌, ◌*◌, ◌≤◌, ◌&&◌, Bool, true, false, List, [], ◌∷◌, length, map, take, replicate, get_or, refl, sym, ap, subst, arith, nat_lt, le-ltb}
-use Rattle.std.proofs.lemmas.Bool.{cases_lt}
-use Rattle.std.proofs.lemmas.List.{length-map, length-replicate, get_or-replicate, get_or_past}
-use Rattle.ink_base.specs.declared.ids.ThreadId.{ThreadId}
-use Rattle.fram_words.specs.Places.{Place, Tail, Slot, Ack, Clock, Src}
-use Rattle.fram_words.specs.Shape.{memory_of, region, offset, has_indices}
-use Rattle.task_isa.specs.declared.program.Program.{Program}
-use Rattle.task_isa.specs.declared.program.ThreadDef.{ThreadDef}
-use Rattle.prog_check.specs.Accepted.{IsAccepted}
-use Rattle.prog_check.specs.Lookup.{thread_def, no_thread_def}
-use Rattle.ink_layout.specs.Shape.{shape_of, thread_shape, task_words, pipe_words, queue_words}
-use Rattle.ink_layout.proofs.Regions.{in_rest}
-use Rattle.ink_layout.specs.Image.{IsFirstImage}
-use Rattle.push_core.specs.Table.{first_row}
-use Rattle.push_core.specs.Queue.{open_queue}
-use Rattle.source_laws.specs.Stands.{State}
-use Rattle.source_laws.specs.Steps.{IsFirst, IsStart}
-use Rattle.source_laws.proofs.Runs.{start_first, kept_start}
-use Rattle.never_cut.specs.State.{queue_of, source_in, no_thread, no_source, open_model, open_thread, open_source}
-use Rattle.never_cut.specs.declared.model.Model.{Model}
-use Rattle.never_cut.specs.Stands.{StandsPrivate}
-use Rattle.never_cut.specs.Within.{AreShort}
-use Rattle.never_cut.proofs.Lasting.{lasts_less, open_lasts}
-use Rattle.never_cut.proofs.Starts.{open_starts}
-use Rattle.never_cut.proofs.SoundStates.{sound_after}
-use Rattle.reboot.proofs.Boots.{boot_begins}
-use Rattle.kernel_core.specs.Record.{ChargeRecord, not_begun, charge_of}
-use Rattle.kernel_core.specs.Board.{Setup, Board, shape, sides, row_of, journal, moved_by, first_board}
-use Rattle.kernel_core.specs.Views.{seen}
-use Rattle.kernel_core.specs.First.{IsSetup, StandsFirst}
-use Rattle.kernel_core.specs.Stands.{memory}
-use Rattle.kernel_core.specs.kept.Holds.{HasSize, Holds}
-use Rattle.kernel_core.specs.Moves.{ticks, turns, IsInRange, EveryPrefixStands, ImagePrefixesStand, OneIsFinished}
+use Rattle.kernel_core.proofs.Common.{◌≡◌, inl, inr, ℕ, zero, suc, ◌+◌, ◌*◌, ◌≤◌, ◌&&◌, Bool, true, false, List, [], ◌∷◌, length, map, take, replicate, get_or, refl, sym, ap, subst, arith, nat_lt, le-ltb, cases_lt, length-map, length-replicate, get_or-replicate, get_or_past, ThreadId, Place, Tail, Slot, Ack, Clock, Src, memory_of, region, offset, has_indices, Program, ThreadDef, IsAccepted, thread_def, no_thread_def, shape_of, thread_shape, task_words, pipe_words, queue_words, in_rest, IsFirstImage, first_row, open_queue, State, IsFirst, IsStart, start_first, kept_start, queue_of, source_in, no_thread, no_source, open_model, open_thread, open_source, Model, StandsPrivate, AreShort, lasts_less, open_lasts, open_starts, sound_after, boot_begins, ChargeRecord, not_begun, charge_of, Setup, Board, shape, sides, row_of, journal, moved_by, first_board, seen, IsSetup, StandsFirst, memory, HasSize, Holds, ticks, turns, IsInRange, EveryPrefixStands, ImagePrefixesStand, OneIsFinished}
 use Rattle.never_cut.proofs.FirstImages.{false_second, nothing_at, first_private}
 use Rattle.never_cut.specs.Start.{CanStart}
 use Rattle.kernel_core.proofs.Sides.{within_limits, shared_of}

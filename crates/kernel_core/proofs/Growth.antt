@@ -1,28 +1,6 @@
 -- The journal of a board grows by at most one entry a move, and at the end it is what the records of the charges keep.
-use Rattle.std.proofs.Common.{◌≡◌, ℕ, zero, suc, ◌+◌, ◌^◌, ◌<◌, ◌≤◌, cond, Bool, true, false, List, [], ◌∷◌, ◌++◌, length, take, replicate, Option, Some, None, refl, sym, ap, ◌∙◌, subst, arith, length-set, append-nil, append_assoc, take_all}
-use Rattle.std.specs.List.{flat_map}
-use Rattle.std.proofs.lemmas.List.{length-replicate}
-use Rattle.ink_base.specs.declared.actor.Actor.{Actor}
-use Rattle.ink_base.specs.declared.entry.Entry.{Entry}
-use Rattle.ink_base.specs.declared.entry.Entry.TheVariants.{Tick}
-use Rattle.ink_layout.specs.Image.{IsFirstImage}
-use Rattle.ink_layout.specs.Points.{entry_of_point}
-use Rattle.job_parts.specs.declared.charge.Charge.{Charge}
-use Rattle.job_parts.specs.declared.item.Item.{Item}
-use Rattle.job_parts.specs.Job.{JobParts, IsJob}
-use Rattle.push_core.specs.Table.{is_left, point_of}
-use Rattle.source_laws.specs.Rows.{port_of}
-use Rattle.never_cut.specs.Entries.{readings_of}
-use Rattle.never_cut.specs.Journal.{noted, IsLegal}
-use Rattle.never_cut.specs.State.{open_model}
-use Rattle.never_cut.proofs.Lasting.{lasts_less}
-use Rattle.kernel_core.specs.Kernel.{point_found}
-use Rattle.kernel_core.specs.Record.{ChargeRecord, not_begun, with_kernel, with_source, with_tick, journal_of}
-use Rattle.kernel_core.specs.Board.{Setup, Board, Move, Cut, Turn, sides, journal, finds, kernel_access, source_access, source_made, row_of, entry_of_source, turn, cut, move, moved_by, first_board}
-use Rattle.kernel_core.specs.kept.Holds.{HasSize}
-use Rattle.kernel_core.specs.Moves.{AreMoves, turns, turns_of}
-use Rattle.kernel_core.specs.Listed.{moves_of, moves, run_first, run}
-use Rattle.kernel_core.specs.Core.{setup_of}
+use Rattle.kernel_core.proofs.Common.{◌≡◌, ℕ, zero, suc, ◌+◌, ◌^◌, ◌<◌, ◌≤◌, cond, Bool, true, false, List, [], ◌∷◌, ◌++◌, length, take, replicate, Option, Some, None, refl, sym, ap, ◌∙◌, subst, arith, length-set, append-nil, append_assoc, take_all, flat_map, length-replicate, Actor, Entry, Tick, IsFirstImage, entry_of_point, Charge, Item, JobParts, IsJob, is_left, point_of, port_of, readings_of, noted, IsLegal, open_model, lasts_less, point_found, ChargeRecord, not_begun, with_kernel, with_source, with_tick, journal_of, Setup, Board, Move, Cut, Turn, sides, journal, finds, kernel_access, source_access, source_made, row_of, entry_of_source, turn, cut, move, moved_by, first_board, HasSize, AreMoves, turns, moves_of, moves, run_first, run, setup_of}
+use Rattle.kernel_core.specs.Moves.{turns_of}
 use Rattle.ink_base.specs.declared.actor.Actor.TheVariants as actors
 use Rattle.kernel_core.specs.Listed as listed
 use Rattle.kernel_core.proofs.Charges.{charged_journal}

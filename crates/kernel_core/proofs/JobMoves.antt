@@ -1,26 +1,6 @@
 -- What a job lists: its board can make the moves, clock and stamps fit their words to the end, and the board stands after each move.
-use Rattle.std.proofs.Common.{◌≡◌, inl, inr, ℕ, zero, suc, ◌+◌, ◌*◌, ◌^◌, ◌<◌, ◌≤◌, List, [], ◌∷◌, ◌++◌, length, replicate, get_or, refl, sym, ap, ◌∙◌, subst, arith, append_assoc}
-use Rattle.std.specs.List.{All, flat_map}
-use Rattle.std.proofs.lemmas.Bool.{cases_lt}
-use Rattle.std.proofs.lemmas.List.{get_or_past}
-use Rattle.std.proofs.lemmas.List.Elements.{All-get_or, All-head, All-tail}
-use Rattle.std.proofs.lemmas.List.Sums.{sum_by-cons}
-use Rattle.ink_base.specs.declared.actor.Actor.{Actor}
-use Rattle.ink_layout.specs.Image.{IsFirstImage}
-use Rattle.job_parts.specs.declared.charge.Charge.{Charge}
-use Rattle.job_parts.specs.declared.item.Item.{Item}
-use Rattle.job_parts.specs.Job.{JobParts, IsJob, IsRightCharge, AreReadings, item_turns, charge_turns, IsOnBoard}
-use Rattle.never_cut.specs.Entries.{readings_of}
-use Rattle.never_cut.specs.State.{open_model}
-use Rattle.never_cut.specs.Within.{AreShort}
-use Rattle.never_cut.proofs.Lasting.{open_lasts}
-use Rattle.never_cut.proofs.Starts.{open_starts}
-use Rattle.kernel_core.specs.Board.{Setup, Move, Turn}
-use Rattle.kernel_core.specs.First.{IsSetup, StandsFirst}
-use Rattle.kernel_core.specs.Stands.{BoardStands}
-use Rattle.kernel_core.specs.Listed.{turns_of, moves_of, moves, run_first}
-use Rattle.kernel_core.specs.Moves.{IsActor, AreMoves, ticks, turns, IsInRange}
-use Rattle.kernel_core.specs.Core.{setup_of}
+use Rattle.kernel_core.proofs.Common.{◌≡◌, inl, inr, ℕ, zero, suc, ◌+◌, ◌*◌, ◌^◌, ◌<◌, ◌≤◌, List, [], ◌∷◌, ◌++◌, length, replicate, get_or, refl, sym, ap, ◌∙◌, subst, arith, append_assoc, All, flat_map, cases_lt, get_or_past, All-get_or, All-head, All-tail, sum_by-cons, Actor, IsFirstImage, Charge, Item, JobParts, IsJob, IsRightCharge, AreReadings, item_turns, charge_turns, readings_of, open_model, AreShort, open_lasts, open_starts, Setup, Move, Turn, IsSetup, StandsFirst, BoardStands, turns_of, moves_of, moves, run_first, IsActor, AreMoves, ticks, turns, IsInRange, setup_of}
+use Rattle.job_parts.specs.Job.{IsOnBoard}
 use Rattle.kernel_core.proofs.CoreRuns.{actor_on}
 use Rattle.kernel_core.proofs.Firsts.{every_prefix, first_stands}
 

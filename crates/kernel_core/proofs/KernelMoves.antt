@@ -1,33 +1,5 @@
 -- Each row of the kernel's tables is a step that the sources' side is proved for.
-use Rattle.std.proofs.Common.{if◌then◌else◌, ◌≡◌, ℕ, ◌+◌, ◌*◌, ◌^◌, ◌%◌, ◌<◌, Bool, true, false, List, length, Option, Some, None, refl, sym, subst, arith}
-use Rattle.ink_base.specs.declared.event.Event.{Event}
-use Rattle.ink_base.specs.declared.ids.ThreadId.{ThreadId}
-use Rattle.fram_words.specs.Places.{Log, Commit, Memory, Store, perform}
-use Rattle.push_core.specs.Slots.{empty_word, slot_in}
-use Rattle.push_core.specs.declared.row.Row.{Row}
-use Rattle.thread_state.specs.Pages.{working_mask}
-use Rattle.prog_check.specs.Lookup.{thread_def}
-use Rattle.ink_layout.specs.Points.{entry_of_point}
-use Rattle.never_cut.specs.declared.model.Model.{Model}
-use Rattle.never_cut.specs.State.{thread_of}
-use Rattle.never_cut.specs.Commit.{committed}
-use Rattle.never_cut.specs.Entries.{effect}
-use Rattle.never_cut.specs.Journal.{moved}
-use Rattle.never_cut.specs.kept.Actors.{IsAllowed}
-use Rattle.never_cut.specs.kept.Steps.{Background}
-use Rattle.never_cut.specs.kept.Picked.{IsPicked}
-use Rattle.reboot.specs.Boot.{boot_wants, boot_point}
-use Rattle.reboot.specs.declared.boot_at.BootAt.{BootAt}
-use Rattle.priority_sched.specs.Scan.{scan_wants, scan_point, look_point, event_at}
-use Rattle.priority_sched.specs.declared.scan_at.ScanAt.{ScanAt}
-use Rattle.persist_timer.specs.Due.{armed}
-use Rattle.task_run.specs.declared.phase.Phase.{Phase}
-use Rattle.task_run.specs.declared.machine.TaskMachine.{TaskMachine}
-use Rattle.task_run.specs.Machine.{Put, action, access_of, point_at, device, fetch, is_late, sending}
-use Rattle.task_run.specs.Endings.{next_by, total_word}
-use Rattle.task_run.specs.Knows.{KnowsAt}
-use Rattle.never_cut.specs.Stands.{origin_word}
-use Rattle.kernel_core.specs.Board.{Setup}
+use Rattle.kernel_core.proofs.Common.{if◌then◌else◌, ◌≡◌, ℕ, ◌+◌, ◌*◌, ◌^◌, ◌%◌, ◌<◌, Bool, true, false, List, length, Option, Some, None, refl, sym, subst, arith, Event, ThreadId, Log, Commit, Memory, Store, perform, empty_word, slot_in, Row, working_mask, thread_def, entry_of_point, Model, thread_of, committed, effect, moved, IsAllowed, Background, IsPicked, boot_wants, boot_point, BootAt, scan_wants, scan_point, look_point, event_at, ScanAt, armed, Phase, TaskMachine, Put, action, access_of, point_at, device, fetch, is_late, sending, next_by, total_word, KnowsAt, origin_word, Setup}
 use Rattle.ink_base.specs.declared.entry.Entry.TheVariants as entries
 use Rattle.reboot.specs.declared.boot_at.BootAt.TheVariants as boot
 use Rattle.priority_sched.specs.declared.scan_at.ScanAt.TheVariants as scan

@@ -1,36 +1,5 @@
 -- Each place that the kernel wants is one of the board.
-use Rattle.std.proofs.Common.{◌≡◌, inl, inr, ℕ, ◌+◌, ◌*◌, ◌/◌, ◌%◌, ◌<◌, ◌==◌, Bool, true, false, cond, List, length, refl, sym, ap, ◌∙◌, subst, arith, mod-lt, if◌then◌else◌}
-use Rattle.ink_base.specs.declared.event.Event.{Event}
-use Rattle.fram_words.specs.Places.{Memory, place_of}
-use Rattle.thread_state.specs.Pages.{Buffer, Copying, Loading, Storing, place_in, working_mask, put_access, write_access, copy_access, is_dirty, IsUnderWay}
-use Rattle.prog_check.specs.Lookup.{thread_def, pipe_def}
-use Rattle.task_isa.specs.declared.program.Program.{Program}
-use Rattle.ink_layout.specs.Shape.{IsOnBoard, pages_of}
-use Rattle.never_cut.specs.declared.model.Model.{Model}
-use Rattle.never_cut.specs.Entries.{Readings}
-use Rattle.never_cut.specs.State.{thread_of}
-use Rattle.never_cut.specs.Sound.{IsQueued}
-use Rattle.never_cut.specs.kept.Steps.{Background}
-use Rattle.never_cut.specs.Within.{Lasts}
-use Rattle.never_cut.specs.kept.Actors.{IsFinishing}
-use Rattle.reboot.specs.Boot.{boot_wants}
-use Rattle.reboot.specs.Knows.{BootKnows}
-use Rattle.reboot.specs.declared.boot_at.BootAt.{BootAt}
-use Rattle.priority_sched.specs.Scan.{scan_wants, IsScanRow}
-use Rattle.priority_sched.proofs.Ranges.{scan_in_range}
-use Rattle.priority_sched.specs.declared.scan_at.ScanAt.{ScanAt}
-use Rattle.persist_timer.specs.Due.{armed}
-use Rattle.task_run.specs.declared.phase.Phase.{Phase}
-use Rattle.task_run.specs.declared.machine.TaskMachine.{TaskMachine}
-use Rattle.task_run.specs.Machine.{Put, action, access_of, device, fetch, is_late}
-use Rattle.task_run.specs.Endings.{next_by, total_word}
-use Rattle.task_run.specs.Knows.{KnowsAt}
-use Rattle.kernel_core.specs.Board.{Setup}
-use Rattle.kernel_core.specs.First.{IsSetup}
-use Rattle.kernel_core.specs.kept.Holds.{KernelHolds}
-use Rattle.kernel_core.specs.Kernel.{wants}
-use Rattle.kernel_core.specs.declared.kernel.Kernel.{Kernel}
-use Rattle.task_run.proofs.Ranges.{every_task_fits}
+use Rattle.kernel_core.proofs.Common.{◌≡◌, inl, inr, ℕ, ◌+◌, ◌*◌, ◌/◌, ◌%◌, ◌<◌, ◌==◌, Bool, true, false, cond, List, length, refl, sym, ap, ◌∙◌, subst, arith, mod-lt, if◌then◌else◌, Event, Memory, place_of, Buffer, Copying, Loading, Storing, place_in, working_mask, put_access, write_access, copy_access, is_dirty, IsUnderWay, thread_def, pipe_def, Program, IsOnBoard, pages_of, Model, Readings, thread_of, IsQueued, Background, Lasts, IsFinishing, boot_wants, BootKnows, BootAt, scan_wants, IsScanRow, scan_in_range, ScanAt, armed, Phase, TaskMachine, Put, action, access_of, device, fetch, is_late, next_by, total_word, KnowsAt, Setup, IsSetup, KernelHolds, wants, Kernel, every_task_fits}
 use Rattle.std.proofs.lemmas.Nat.Bits.{bit_at-lt}
 use Rattle.std.specs.Int.{bit_at}
 use Rattle.push_core.specs.Queue.{event_at}

@@ -1,21 +1,6 @@
 -- Each access of the kernel is a step that the sources' side is proved for.
-use Rattle.std.proofs.Common.{◌≡◌, inl, ℕ, ◌<◌, false, List, length, get_or, set, refl, sym, ap, subst, arith}
-use Rattle.ink_base.specs.declared.ids.ThreadId.{ThreadId}
-use Rattle.fram_words.specs.Places.{Commit, Slot, Ack, Memory, Store, store, perform, place_of, Access}
-use Rattle.fram_words.specs.Changes.{Becomes}
-use Rattle.fram_words.proofs.Accesses.{stored}
-use Rattle.push_core.specs.declared.row.Row.{Row}
-use Rattle.push_core.specs.Queue.{Queue, with_finished, without_first}
-use Rattle.source_laws.specs.Model.{QueueBecomes}
-use Rattle.source_laws.specs.Steps.{Step}
-use Rattle.never_cut.specs.declared.model.Model.{Model}
-use Rattle.never_cut.specs.declared.thread_model.ThreadModel.{ThreadModel}
-use Rattle.never_cut.specs.declared.source_model.SourceModel.{SourceModel}
-use Rattle.never_cut.specs.State.{thread_of, queue_of, source_in, no_thread, no_source}
-use Rattle.never_cut.specs.Entries.{effect, released}
-use Rattle.never_cut.specs.kept.Actors.{IsAllowedStore}
-use Rattle.kernel_core.specs.Board.{Setup, sides}
-use Rattle.kernel_core.specs.Views.{sides_of, seen}
+use Rattle.kernel_core.proofs.Common.{◌≡◌, inl, ℕ, ◌<◌, false, List, length, get_or, set, refl, sym, ap, subst, arith, ThreadId, Commit, Slot, Ack, Memory, Store, store, perform, place_of, Becomes, stored, Row, Queue, with_finished, without_first, QueueBecomes, Step, Model, ThreadModel, SourceModel, thread_of, queue_of, source_in, no_thread, no_source, effect, released, IsAllowedStore, Setup, sides, sides_of, seen}
+use Rattle.fram_words.specs.Places.{Access}
 use Rattle.ink_base.specs.declared.entry.Entry.TheVariants as entries
 use Rattle.source_laws.specs.Steps as steps
 use Rattle.kernel_core.proofs.Sides.{Becomes-queue}

@@ -1,34 +1,5 @@
 -- An access of the kernel is legal and allowed, and its registers know what they must after it.
-use Rattle.std.proofs.Common.{◌≡◌, ℕ, ◌+◌, Bool, true, false, Option, Some, None, refl, sym, ◌∙◌, subst, if◌then◌else◌}
-use Rattle.ink_base.specs.declared.event.Event.{Event}
-use Rattle.ink_base.specs.declared.ids.ThreadId.{ThreadId}
-use Rattle.ink_base.specs.declared.entry.Entry.{Entry}
-use Rattle.fram_words.specs.Places.{Memory, perform, answer}
-use Rattle.push_core.specs.Slots.{slot_in}
-use Rattle.push_core.specs.declared.row.Row.{Row}
-use Rattle.ink_layout.specs.Points.{entry_of_point}
-use Rattle.never_cut.specs.declared.model.Model.{Model}
-use Rattle.never_cut.specs.Journal.{moved, MayNote}
-use Rattle.never_cut.specs.Sound.{IsSound}
-use Rattle.never_cut.specs.kept.Steps.{Background, IsKept}
-use Rattle.never_cut.specs.Within.{Lasts}
-use Rattle.never_cut.proofs.SoundStates.{sound_step}
-use Rattle.reboot.specs.Boot.{boot_stamp, boot_wants, boot_takes, boot_point}
-use Rattle.reboot.specs.Knows.{BootHolds}
-use Rattle.reboot.specs.declared.machine.BootMachine.{BootMachine}
-use Rattle.reboot.proofs.Boots.{boot_keeps}
-use Rattle.priority_sched.specs.Scan.{scan_result, scan_wants, scan_takes, scan_point, look_point, event_at}
-use Rattle.priority_sched.specs.declared.scan_at.ScanAt.{ScanAt}
-use Rattle.task_run.specs.declared.phase.Phase.{Phase}
-use Rattle.task_run.specs.declared.machine.TaskMachine.{TaskMachine}
-use Rattle.task_run.specs.Machine.{is_over, first_phase}
-use Rattle.task_run.specs.Knows.{Knows, KnowsAt}
-use Rattle.kernel_core.specs.declared.kernel.Kernel.{Kernel}
-use Rattle.kernel_core.specs.declared.kernel.Kernel.TheVariants.{Boot, Scan, Task}
-use Rattle.kernel_core.specs.Kernel.{wants, takes, point_found, booted, after_boot, after_scan, after_task, begin_scan}
-use Rattle.kernel_core.specs.Board.{Setup}
-use Rattle.kernel_core.specs.First.{IsSetup}
-use Rattle.kernel_core.specs.kept.Holds.{KernelHolds}
+use Rattle.kernel_core.proofs.Common.{◌≡◌, ℕ, ◌+◌, Bool, true, false, Option, Some, None, refl, sym, ◌∙◌, subst, if◌then◌else◌, Event, ThreadId, Entry, Memory, perform, answer, slot_in, Row, entry_of_point, Model, moved, MayNote, IsSound, Background, IsKept, Lasts, sound_step, boot_stamp, boot_wants, boot_takes, boot_point, BootHolds, BootMachine, boot_keeps, scan_result, scan_wants, scan_takes, scan_point, look_point, event_at, ScanAt, Phase, TaskMachine, is_over, first_phase, Knows, KnowsAt, Kernel, Boot, Scan, Task, wants, takes, point_found, booted, after_boot, after_scan, after_task, begin_scan, Setup, IsSetup, KernelHolds}
 use Rattle.ink_base.specs.declared.ids.TaskId.{TaskId}
 use Rattle.reboot.proofs.Ends.{boot_ends}
 use Rattle.priority_sched.specs.Knows.{ScanHolds}

@@ -1,3 +1,4 @@
+mod Common
 pub mod Sides
 pub mod Quiet
 pub mod KernelSteps

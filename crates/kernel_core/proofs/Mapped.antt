@@ -1,5 +1,5 @@
 -- A loop that changes each element of a vector in its place.
-use Rattle.std.proofs.Common.{◌≡◌, ℕ, zero, suc, ◌+◌, ◌<◌, ◌≤◌, List, [], ◌∷◌, ◌++◌, length, map, take, drop, get_or, set, refl, ap, subst, arith}
+use Rattle.kernel_core.proofs.Common.{◌≡◌, ℕ, zero, suc, ◌+◌, ◌<◌, ◌≤◌, List, [], ◌∷◌, ◌++◌, length, map, take, drop, get_or, set, refl, ap, subst, arith}
 
 -- one more element
 pub mapped_more : {X : Type 0} (f : X → X) (none : X) (xs : List X) (i : ℕ) → i < length xs →

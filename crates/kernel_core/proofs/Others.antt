@@ -1,30 +1,6 @@
 -- What the accesses of sources and clock leave of what the kernel knows.
-use Rattle.std.proofs.Common.{◌≡◌, inl, inr, ℕ, ◌+◌, ◌<◌, ◌≤◌, ◌==◌, cond, List, [], ◌∷◌, ◌++◌, length, get_or, set, Some, refl, sym, ap, ◌∙◌, subst, arith, eq-eqb, ne_eqb, append-nil, length-set}
-use Rattle.std.proofs.lemmas.Bool.{cases_eq}
-use Rattle.ink_base.specs.declared.event.Event.{Event}
-use Rattle.fram_words.specs.Places.{Place, Tail, Slot, Src, Memory, Exchange, Store, perform}
-use Rattle.task_isa.specs.declared.program.Program.{Program}
-use Rattle.prog_check.specs.Lookup.{source_thread}
-use Rattle.push_core.specs.declared.stage.Stage.{Stage}
-use Rattle.push_core.specs.declared.stage.Stage.TheVariants.{LoadSrc, LoadSlots, LoadAck, LoadTail, LoadSlot, Publish, MoveTail, HelpTail, StoreSkip, StoreAccepted}
-use Rattle.push_core.specs.declared.point.Point.{Point}
-use Rattle.push_core.specs.Table.{src_word}
-use Rattle.push_core.specs.Slots.{empty_word}
-use Rattle.push_core.specs.Queue.{event_word}
-use Rattle.source_laws.specs.Rows.{access_at, event_of, slot_place}
-use Rattle.source_laws.specs.Steps.{Adds, MayAdd}
-use Rattle.never_cut.specs.declared.model.Model.{Model}
-use Rattle.never_cut.specs.declared.thread_model.ThreadModel.{ThreadModel}
-use Rattle.never_cut.specs.State.{thread_of, source_of, no_thread, with_thread, with_source}
-use Rattle.never_cut.specs.Entries.{effect, pushed, next_event, with_accepted, with_refused, with_skipped}
-use Rattle.never_cut.specs.Journal.{moved, MayNote}
-use Rattle.never_cut.specs.kept.Actors.{SamePrivate, IsPrivate, Follows, without_held}
-use Rattle.never_cut.proofs.Follows.{same_follows, push_follows}
-use Rattle.kernel_core.specs.declared.kernel.Kernel.{Kernel}
-use Rattle.kernel_core.specs.declared.kernel.Kernel.TheVariants.{Boot, Scan, Task}
-use Rattle.kernel_core.specs.Board.{Setup, sides, entry_of_source}
-use Rattle.kernel_core.specs.Views.{sides_of}
-use Rattle.kernel_core.specs.kept.Holds.{KernelHolds}
+use Rattle.kernel_core.proofs.Common.{◌≡◌, inl, inr, ℕ, ◌+◌, ◌<◌, ◌≤◌, ◌==◌, cond, List, [], ◌∷◌, ◌++◌, length, get_or, set, Some, refl, sym, ap, ◌∙◌, subst, arith, eq-eqb, ne_eqb, append-nil, length-set, cases_eq, Event, Place, Tail, Slot, Src, Memory, Exchange, Store, perform, Program, source_thread, Stage, LoadSrc, LoadSlots, LoadAck, LoadTail, LoadSlot, Publish, MoveTail, HelpTail, StoreSkip, StoreAccepted, Point, src_word, empty_word, event_word, access_at, event_of, slot_place, Adds, MayAdd, Model, ThreadModel, thread_of, source_of, no_thread, with_thread, effect, pushed, next_event, with_accepted, with_refused, with_skipped, moved, MayNote, SamePrivate, IsPrivate, Follows, without_held, same_follows, push_follows, Kernel, Boot, Scan, Task, Setup, sides, entry_of_source, sides_of, KernelHolds}
+use Rattle.never_cut.specs.State.{with_source}
 use Rattle.ink_base.specs.declared.entry.Entry.TheVariants as entries
 use Rattle.push_core.specs.declared.point.Point.TheVariants as points
 use Rattle.source_laws.specs.Model as sources

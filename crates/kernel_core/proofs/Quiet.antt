@@ -1,8 +1,6 @@
 -- An access changes its own place alone.
-use Rattle.std.proofs.Common.{◌≡◌, ◌≢◌, ℕ, ◌+◌, ◌/◌, ◌==◌, cond, Bool, true, false, refl, sym, subst}
-use Rattle.fram_words.specs.Places.{Place, IsShared, Memory, Load, Store, Exchange, Add, store, perform, place_of, Access}
-use Rattle.fram_words.proofs.Frames.{store-other}
-use Rattle.thread_state.specs.Pages.{Buffer, Copying, Loading, Storing, put_access, copy_access, write_access, is_dirty}
+use Rattle.kernel_core.proofs.Common.{◌≡◌, ◌≢◌, ℕ, ◌+◌, ◌/◌, ◌==◌, cond, Bool, true, false, refl, sym, subst, Place, IsShared, Memory, Load, Store, Exchange, Add, store, perform, place_of, store-other, Buffer, Copying, Loading, Storing, put_access, copy_access, write_access, is_dirty}
+use Rattle.fram_words.specs.Places.{Access}
 
 pub perform_other : (m : Memory) (a : Access) (q : Place) → place_of a ≢ q → perform m a q ≡ m q
 perform_other m (Load p) q ne = refl

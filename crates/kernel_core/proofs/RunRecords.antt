@@ -1,20 +1,5 @@
 -- The words of a record stand as those of its board.
-use Rattle.std.proofs.Common.{◌≡◌, ℕ, zero, suc, ◌≤◌, List, [], ◌∷◌, ◌++◌, refl, sym, ap, ◌∙◌, subst, arith}
-use Rattle.std.specs.List.{flat_map}
-use Rattle.ink_base.specs.declared.entry.Entry.{Entry}
-use Rattle.job_parts.specs.Job.{JobParts}
-use Rattle.fram_words.specs.declared.layout.Layout.{Layout}
-use Rattle.push_core.specs.declared.pusher.Pusher.{Pusher}
-use Rattle.never_cut.specs.State.{open_model}
-use Rattle.never_cut.specs.Journal.{after, IsLegal}
-use Rattle.never_cut.specs.Stands.{Stands}
-use Rattle.kernel_core.specs.Record.{ChargeRecord, charge_of, journal_of}
-use Rattle.kernel_core.specs.kept.Recorded.{Recorded}
-use Rattle.kernel_core.specs.Board.{Board, journal}
-use Rattle.kernel_core.specs.Stands.{memory}
-use Rattle.kernel_core.specs.Core.{setup_of}
-use Rattle.kernel_core.specs.kept.Cores.{IsCore}
-use Rattle.kernel_core.specs.RunRecords.{RecordStands, entries_of}
+use Rattle.kernel_core.proofs.Common.{◌≡◌, ℕ, zero, suc, ◌≤◌, List, [], ◌∷◌, ◌++◌, refl, sym, ap, ◌∙◌, subst, arith, flat_map, Entry, JobParts, Layout, Pusher, open_model, after, IsLegal, Stands, ChargeRecord, charge_of, journal_of, Recorded, Board, journal, memory, setup_of, IsCore, RecordStands, entries_of}
 use Rattle.kernel_core.proofs.CoreSteps.{stands}
 
 no_entries : (charges : List ChargeRecord) → ((k : ℕ) → (charge_of charges k).entries ≡ []) → flat_map entries_of charges ≡ []

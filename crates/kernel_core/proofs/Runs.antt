@@ -1,15 +1,5 @@
 -- What holds outlasts every list of turns and cuts.
-use Rattle.std.proofs.Common.{◌≡◌, ℕ, zero, suc, ◌+◌, ◌<◌, ◌≤◌, cond, Bool, true, false, List, [], ◌∷◌, length, take, refl, sym, subst, arith}
-use Rattle.ink_base.specs.declared.actor.Actor.{Actor}
-use Rattle.push_core.specs.Table.{is_left}
-use Rattle.never_cut.specs.Entries.{readings_of}
-use Rattle.never_cut.specs.Within.{Lasts}
-use Rattle.never_cut.proofs.Lasting.{lasts_less}
-use Rattle.kernel_core.specs.Board.{Setup, Board, Move, Cut, Turn, turn, cut, source_made, row_of, moved_by}
-use Rattle.kernel_core.specs.First.{IsSetup}
-use Rattle.kernel_core.specs.Stands.{state}
-use Rattle.kernel_core.specs.kept.Holds.{Holds}
-use Rattle.kernel_core.specs.Moves.{IsActor, AreMoves, ticks, turns, IsInRange}
+use Rattle.kernel_core.proofs.Common.{◌≡◌, ℕ, zero, suc, ◌+◌, ◌<◌, ◌≤◌, cond, Bool, true, false, List, [], ◌∷◌, length, take, refl, sym, subst, arith, Actor, is_left, readings_of, Lasts, lasts_less, Setup, Board, Move, Cut, Turn, turn, cut, source_made, row_of, moved_by, IsSetup, state, Holds, IsActor, AreMoves, ticks, turns, IsInRange}
 use Rattle.ink_base.specs.declared.actor.Actor.TheVariants as actors
 use Rattle.kernel_core.proofs.Turns.{Goes, kernel_goes, source_goes}
 use Rattle.kernel_core.proofs.Cuts.{clock_goes, cut_goes, cut_lasts}

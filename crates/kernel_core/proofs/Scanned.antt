@@ -1,32 +1,5 @@
 -- Each commit of a charge stands behind a scan of the same charge, after every list of turns and cuts.
-use Rattle.std.proofs.Common.{◌≡◌, ◌⊎◌, inl, inr, ℕ, zero, suc, ◌-◌, ◌<◌, ◌≤◌, cond, Bool, true, false, List, [], ◌∷◌, ◌++◌, length, set, replicate, Option, Some, None, refl, sym, ap, ◌∙◌, subst, arith, length-set, get_or-set_same}
-use Rattle.std.proofs.lemmas.List.{length-replicate}
-use Rattle.ink_base.specs.declared.ids.ThreadId.{ThreadId}
-use Rattle.ink_base.specs.declared.actor.Actor.{Actor}
-use Rattle.ink_base.specs.declared.event.Event.{Event}
-use Rattle.ink_base.specs.declared.entry.Entry.{Entry}
-use Rattle.task_isa.specs.declared.program.Program.{Program}
-use Rattle.ink_layout.specs.Points.{entry_of_point}
-use Rattle.push_core.specs.Slots.{slot_in}
-use Rattle.push_core.specs.Table.{is_left, point_of}
-use Rattle.push_core.specs.declared.point.Point.{Point}
-use Rattle.source_laws.specs.Rows.{port_of}
-use Rattle.job_parts.specs.Job.{JobParts, IsJob}
-use Rattle.never_cut.specs.Entries.{readings_of}
-use Rattle.never_cut.specs.Journal.{noted}
-use Rattle.reboot.specs.declared.boot_at.BootAt.{BootAt}
-use Rattle.reboot.specs.declared.machine.BootMachine.{BootMachine}
-use Rattle.reboot.specs.Boot.{boot_takes, boot_point, boot_stamp}
-use Rattle.priority_sched.specs.declared.scan_at.ScanAt.{ScanAt}
-use Rattle.priority_sched.specs.Scan.{scan_point, look_point, event_at}
-use Rattle.kernel_core.specs.declared.kernel.Kernel.{Kernel}
-use Rattle.kernel_core.specs.declared.kernel.Kernel.TheVariants.{Boot, Scan, Task}
-use Rattle.kernel_core.specs.Kernel.{after_boot, takes, point_found}
-use Rattle.kernel_core.specs.Record.{ChargeRecord, charge_of, not_begun, with_kernel, with_source, with_tick, begun}
-use Rattle.kernel_core.specs.Board.{Setup, Board, Move, Cut, Turn, sides, charged, finds, kernel_access, source_access, source_made, row_of, entry_of_source, turn, cut, moved_by, first_board}
-use Rattle.kernel_core.specs.Moves.{AreMoves}
-use Rattle.kernel_core.specs.Listed.{moves, run}
-use Rattle.kernel_core.specs.Core.{setup_of}
+use Rattle.kernel_core.proofs.Common.{◌≡◌, ◌⊎◌, inl, inr, ℕ, zero, suc, ◌-◌, ◌<◌, ◌≤◌, cond, Bool, true, false, List, [], ◌∷◌, ◌++◌, length, set, replicate, Option, Some, None, refl, sym, ap, ◌∙◌, subst, arith, length-set, get_or-set_same, length-replicate, ThreadId, Actor, Event, Entry, Program, entry_of_point, slot_in, is_left, point_of, Point, port_of, JobParts, IsJob, readings_of, noted, BootAt, BootMachine, boot_takes, boot_point, boot_stamp, ScanAt, scan_point, look_point, event_at, Kernel, Boot, Scan, Task, after_boot, takes, point_found, ChargeRecord, charge_of, not_begun, with_kernel, with_source, with_tick, begun, Setup, Board, Move, Cut, Turn, sides, charged, finds, kernel_access, source_access, source_made, row_of, entry_of_source, turn, cut, moved_by, first_board, AreMoves, moves, run, setup_of}
 use Rattle.ink_base.specs.declared.actor.Actor.TheVariants as actors
 use Rattle.ink_base.specs.declared.entry.Entry.TheVariants as entries
 use Rattle.push_core.specs.declared.point.Point.TheVariants as sources

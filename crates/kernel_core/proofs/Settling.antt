@@ -1,23 +1,6 @@
 -- A refused push and its skip on the words of a board, and the room that a turn takes.
-use Rattle.std.proofs.Common.{◌≡◌, ◌≢◌, ℕ, ◌+◌, ◌≤◌, ◌==◌, cond, Bool, true, false, List, length, Option, Some, None, refl, subst, arith, length-set, get_or-set_other}
-use Rattle.ink_base.specs.declared.actor.Actor.{Actor}
-use Rattle.ink_base.specs.declared.entry.Entry.{Entry}
-use Rattle.ink_base.specs.declared.entry.Entry.TheVariants.{Refuse, Skip}
-use Rattle.fram_words.specs.declared.access.Access.{Access}
-use Rattle.fram_words.specs.Words.{performed}
-use Rattle.ink_layout.specs.declared.kernel_point.KernelPoint.{KernelPoint}
-use Rattle.ink_layout.specs.Points.{entry_of_point}
-use Rattle.push_core.specs.Slots.{empty_word, slot_in}
-use Rattle.push_core.specs.declared.stage.Stage.{Stage}
-use Rattle.push_core.specs.declared.stage.Stage.TheVariants.{LoadSrc, LoadSlots, LoadAck, LoadTail, LoadSlot, Publish, MoveTail, HelpTail, StoreSkip, StoreAccepted}
-use Rattle.push_core.specs.Table.{point_of, is_full_at, is_left, src_word, access_at}
-use Rattle.source_laws.specs.Rows.{port_of}
-use Rattle.never_cut.specs.Entries.{readings_of}
-use Rattle.kernel_core.specs.Kernel.{point_found}
-use Rattle.kernel_core.specs.Board.{Setup, Board, sides, finds, kernel_access, source_access, row_of, turn, source_made, entry_of_source}
-use Rattle.kernel_core.specs.declared.made.Made.{Made}
-use Rattle.kernel_core.specs.Made.{made_by, access_made, nothing_made, one_if, accesses_in}
-use Rattle.kernel_core.specs.Settling.{IsSameBut, RefusalsKeep, SkipsStore, src_of}
+use Rattle.kernel_core.proofs.Common.{◌≡◌, ◌≢◌, ℕ, ◌+◌, ◌≤◌, ◌==◌, cond, Bool, true, false, List, length, Option, Some, None, refl, subst, arith, length-set, get_or-set_other, Actor, Entry, Refuse, Skip, Access, performed, KernelPoint, entry_of_point, empty_word, slot_in, Stage, LoadSrc, LoadSlots, LoadAck, LoadTail, LoadSlot, Publish, MoveTail, HelpTail, StoreSkip, StoreAccepted, point_of, is_full_at, is_left, src_word, port_of, readings_of, point_found, Setup, Board, sides, finds, kernel_access, source_access, row_of, turn, source_made, entry_of_source, Made, made_by, access_made, nothing_made, one_if, accesses_in, IsSameBut, RefusalsKeep, SkipsStore, src_of}
+use Rattle.push_core.specs.Table.{access_at}
 use Rattle.ink_base.specs.declared.ids.SourceId.{SourceId}
 use Rattle.ink_base.specs.declared.actor.Actor.TheVariants as actors
 use Rattle.ink_layout.specs.declared.kernel_point.KernelPoint.TheVariants as points

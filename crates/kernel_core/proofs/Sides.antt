@@ -1,27 +1,5 @@
 -- The run as the sources see it, and what their side keeps tells of the queues.
-use Rattle.std.proofs.Common.{◌≡◌, inl, inr, ℕ, ◌<◌, List, length, get_or, set, ap, arith, get_or-set_same, get_or-set_other}
-use Rattle.std.proofs.lemmas.Bool.{cases_lt}
-use Rattle.std.proofs.lemmas.List.{get_or_past}
-use Rattle.fram_words.specs.Places.{Memory, Clock}
-use Rattle.fram_words.specs.Changes.{Becomes}
-use Rattle.task_isa.specs.declared.program.ThreadDef.{ThreadDef}
-use Rattle.task_isa.specs.declared.program.Program.{Program}
-use Rattle.prog_check.specs.Accepted.{IsAccepted}
-use Rattle.prog_check.specs.Lookup.{thread_def, no_thread_def, source_thread}
-use Rattle.push_core.specs.declared.row.Row.{Row}
-use Rattle.source_laws.specs.Stands.{IsWithin}
-use Rattle.source_laws.specs.kept.Kept.{Kept}
-use Rattle.never_cut.specs.declared.model.Model.{Model}
-use Rattle.never_cut.specs.declared.thread_model.ThreadModel.{ThreadModel}
-use Rattle.never_cut.specs.declared.source_model.SourceModel.{SourceModel}
-use Rattle.never_cut.specs.State.{queue_of, source_in, no_thread, no_source}
-use Rattle.never_cut.specs.Sound.{IsSound}
-use Rattle.never_cut.specs.kept.Actors.{StandsForKernel}
-use Rattle.never_cut.specs.Within.{AreShort}
-use Rattle.never_cut.proofs.SoundStates.{published_bound}
-use Rattle.kernel_core.specs.Board.{Setup, sides}
-use Rattle.kernel_core.specs.Views.{seen}
-use Rattle.kernel_core.specs.First.{IsSetup}
+use Rattle.kernel_core.proofs.Common.{◌≡◌, inl, inr, ℕ, ◌<◌, List, length, get_or, set, ap, arith, get_or-set_same, get_or-set_other, cases_lt, get_or_past, Memory, Clock, Becomes, ThreadDef, Program, IsAccepted, thread_def, no_thread_def, source_thread, Row, IsWithin, Kept, Model, ThreadModel, SourceModel, queue_of, source_in, no_thread, no_source, IsSound, StandsForKernel, AreShort, published_bound, Setup, sides, seen, IsSetup}
 
 -- a run within its limits is one within those of the sources
 pub within_limits : (s : Setup) → IsAccepted s.program → AreShort s.readings → IsWithin (sides s)

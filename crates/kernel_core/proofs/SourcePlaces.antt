@@ -1,18 +1,5 @@
 -- Each place that a source wants is one of the board.
-use Rattle.std.proofs.Common.{ℕ, ◌%◌, ◌<◌, length, arith, mod-lt}
-use Rattle.fram_words.specs.Places.{Memory, place_of}
-use Rattle.prog_check.specs.Lookup.{thread_def, source_thread}
-use Rattle.push_core.specs.declared.row.Row.{Row}
-use Rattle.push_core.specs.declared.stage.Stage.{Stage}
-use Rattle.push_core.specs.declared.stage.Stage.TheVariants.{LoadSrc, LoadSlots, LoadAck, LoadTail, LoadSlot, Publish, MoveTail, HelpTail, StoreSkip, StoreAccepted}
-use Rattle.source_laws.specs.Rows.{access, access_at}
-use Rattle.source_laws.specs.Model.{places_for, Near}
-use Rattle.source_laws.specs.kept.Kept.{Kept}
-use Rattle.ink_layout.specs.Shape.{IsOnBoard}
-use Rattle.never_cut.specs.declared.model.Model.{Model}
-use Rattle.kernel_core.specs.Board.{Setup, sides}
-use Rattle.kernel_core.specs.Views.{seen}
-use Rattle.kernel_core.specs.First.{IsSetup}
+use Rattle.kernel_core.proofs.Common.{ℕ, ◌%◌, ◌<◌, length, arith, mod-lt, Memory, place_of, thread_def, source_thread, Row, Stage, LoadSrc, LoadSlots, LoadAck, LoadTail, LoadSlot, Publish, MoveTail, HelpTail, StoreSkip, StoreAccepted, access, access_at, places_for, Near, Kept, IsOnBoard, Model, Setup, sides, seen, IsSetup}
 use Rattle.source_laws.specs.kept.Knows.{KnowsAt}
 
 -- the slot to load in the boot is one of the queue

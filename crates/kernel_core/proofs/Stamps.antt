@@ -1,11 +1,6 @@
 -- A service keeps its stamp.
-use Rattle.std.proofs.Common.{◌≡◌, ℕ, ◌+◌, ◌/◌, ◌%◌, ◌^◌, Bool, true, false, cond, refl, nat_lt}
-use Rattle.task_isa.specs.declared.program.Program.{Program}
-use Rattle.prog_check.specs.Lookup.{thread_def, pipe_def, task_def}
-use Rattle.thread_state.specs.Pages.{is_dirty, after_copy}
-use Rattle.task_run.specs.declared.phase.Phase.{Phase}
-use Rattle.task_run.specs.declared.machine.TaskMachine.{TaskMachine}
-use Rattle.task_run.specs.Machine.{Action, Put, Get, Make, action, after_action, after_act, after_event, after_fetch, after_resume, after_value, after_written, at_phase, is_late, cpu_of, given_by, instr_of, proceed, stepped, trap, after, take}
+use Rattle.kernel_core.proofs.Common.{◌≡◌, ℕ, ◌+◌, ◌/◌, ◌%◌, ◌^◌, Bool, true, false, cond, refl, nat_lt, Program, thread_def, pipe_def, task_def, is_dirty, after_copy, Phase, TaskMachine, Action, Put, Get, Make, action, after_action, after_act, after_event, after_fetch, after_resume, after_value, after_written, at_phase, is_late, cpu_of, given_by, instr_of, proceed, stepped, trap}
+use Rattle.task_run.specs.Machine.{after, take}
 use Rattle.task_isa.specs.declared.act.Act.{Act}
 use Rattle.task_isa.specs.declared.act.Act.TheVariants.{Sets, Goes, Loads, Saves, Puts, Sends, Arms, Stops, Continues, Ends, Traps}
 use Rattle.task_isa.specs.Acts.{Cpu, act_of}

@@ -1,13 +1,5 @@
 -- A board that holds stands for the never-cut kernel after its journal, and is an image.
-use Rattle.std.proofs.Common.{ℕ}
-use Rattle.source_laws.proofs.Runs.{tells}
-use Rattle.never_cut.specs.Within.{Lasts}
-use Rattle.never_cut.specs.Stands.{Stands}
-use Rattle.kernel_core.specs.Board.{Setup, Board, sides, row_of}
-use Rattle.kernel_core.specs.Views.{seen}
-use Rattle.kernel_core.specs.First.{IsSetup}
-use Rattle.kernel_core.specs.Stands.{memory, state, BoardStands}
-use Rattle.kernel_core.specs.kept.Holds.{Holds}
+use Rattle.kernel_core.proofs.Common.{ℕ, tells, Lasts, Stands, Setup, Board, sides, row_of, seen, IsSetup, memory, state, BoardStands, Holds}
 use Rattle.never_cut.proofs.StatesImage.{every_state}
 use Rattle.kernel_core.proofs.Sides.{within}
 use Rattle.kernel_core.proofs.Turns.{background_of}

@@ -1,32 +1,5 @@
 -- The fields of a core before its first charge.
-use Rattle.std.proofs.Common.{◌≡◌, inl, inr, ℕ, zero, suc, ◌+◌, ◌<◌, List, [], ◌∷◌, ◌++◌, length, map, replicate, get_or, length-append, refl, sym, ap, ◌∙◌, subst, arith}
-use Rattle.std.proofs.lemmas.Bool.{cases_eq}
-use Rattle.std.proofs.lemmas.List.{length-replicate}
-use Rattle.task_isa.specs.declared.program.Program.{Program}
-use Rattle.fram_words.specs.declared.layout.Layout.{Layout}
-use Rattle.push_core.specs.Table.{first_row, IsPort}
-use Rattle.push_core.specs.declared.pusher.Pusher.{Pusher}
-use Rattle.source_laws.specs.Rows.{port_of}
-use Rattle.prog_check.specs.Accepted.{IsAccepted}
-use Rattle.prog_check.specs.Lookup.{source_thread}
-use Rattle.fram_words.specs.Places.{Tail, Slot, Ack, Src}
-use Rattle.fram_words.specs.Shape.{address}
-use Rattle.ink_layout.specs.Shape.{shape_of, words_of}
-use Rattle.ink_layout.specs.Addresses.{queue_place}
-use Rattle.ink_layout.proofs.Regions.{below}
-use Rattle.ink_layout.specs.Image.{IsFirstImage}
-use Rattle.ink_layout.specs.Layouts.{IsLayout}
-use Rattle.job_parts.specs.Job.{JobParts, IsJob}
-use Rattle.kernel_core.specs.Kernel.{first_kernel}
-use Rattle.kernel_core.specs.Record.{ChargeRecord, not_begun}
-use Rattle.kernel_core.specs.kept.Recorded.{Recorded}
-use Rattle.kernel_core.specs.Board.{Board, sides, first_board}
-use Rattle.kernel_core.specs.First.{IsSetup, StandsFirst}
-use Rattle.kernel_core.specs.kept.Holds.{Holds}
-use Rattle.kernel_core.specs.Core.{setup_of}
-use Rattle.kernel_core.specs.kept.Cores.{IsCore, AreRecords, CanCount, charge_in, row_in, none_recorded, no_pusher, turns_from}
-use Rattle.kernel_core.specs.kept.Starts.{first_pusher, AreFirstPushers, IsFirstRecord, AreFirstRecords}
-use Rattle.never_cut.proofs.Lasting.{open_lasts}
+use Rattle.kernel_core.proofs.Common.{◌≡◌, inl, inr, ℕ, zero, suc, ◌+◌, ◌<◌, List, [], ◌∷◌, ◌++◌, length, map, replicate, get_or, length-append, refl, sym, ap, ◌∙◌, subst, arith, cases_eq, length-replicate, Program, Layout, first_row, IsPort, Pusher, port_of, IsAccepted, source_thread, Tail, Slot, Ack, Src, address, shape_of, words_of, queue_place, below, IsFirstImage, IsLayout, JobParts, IsJob, first_kernel, ChargeRecord, not_begun, Recorded, Board, sides, first_board, IsSetup, StandsFirst, Holds, setup_of, IsCore, AreRecords, CanCount, charge_in, row_in, none_recorded, no_pusher, turns_from, first_pusher, AreFirstPushers, IsFirstRecord, AreFirstRecords, open_lasts}
 use Rattle.std.proofs.Math.ListN.{get_or-append}
 use Rattle.std.proofs.Math.Seq.{get_or-append_seam}
 use Rattle.ink_layout.proofs.Bounds.{few_words}

@@ -1,46 +1,5 @@
 -- A turn of the kernel and a turn of a source keep what holds.
-use Rattle.std.proofs.Common.{◌≡◌, ℕ, ◌+◌, ◌-◌, ◌<◌, ◌≤◌, cond, Bool, true, false, length, set, Option, Some, None, refl, sym, ap, ◌∙◌, subst, arith, length-set, if◌then◌else◌}
-use Rattle.ink_base.specs.declared.event.Event.{Event}
-use Rattle.ink_base.specs.declared.entry.Entry.{Entry}
-use Rattle.fram_words.specs.Places.{Place, Clock, Memory, perform, answer, place_of}
-use Rattle.fram_words.specs.Shape.{is_valid}
-use Rattle.fram_words.specs.declared.access.Access.{Access}
-use Rattle.fram_words.specs.Words.{performed}
-use Rattle.fram_words.specs.Accesses.{at_address}
-use Rattle.fram_words.proofs.Accesses.{performs, finds_there, performed_there, performed_length}
-use Rattle.ink_layout.specs.Points.{entry_of_point}
-use Rattle.ink_layout.specs.declared.kernel_point.KernelPoint.{KernelPoint}
-use Rattle.ink_layout.proofs.Regions.{valid, below}
-use Rattle.prog_check.specs.Lookup.{source_thread}
-use Rattle.push_core.specs.declared.row.Row.{Row}
-use Rattle.push_core.specs.declared.point.Point.{Point}
-use Rattle.push_core.specs.Table.{first_row, take_of, point_of, is_left, IsLeft}
-use Rattle.source_laws.specs.Rows.{access, port_of}
-use Rattle.source_laws.specs.kept.Kept.{Kept}
-use Rattle.source_laws.specs.Steps.{SourceStep}
-use Rattle.source_laws.proofs.Steps.{source_step, kept_step}
-use Rattle.source_laws.proofs.Ports.{access_of-port}
-use Rattle.never_cut.specs.declared.model.Model.{Model}
-use Rattle.never_cut.specs.declared.scan_model.ScanModel.{ScanModel}
-use Rattle.never_cut.specs.State.{thread_of}
-use Rattle.never_cut.specs.Pending.{pending}
-use Rattle.never_cut.specs.Commit.{committed, commit, expired, ended, end_at, consumed, is_expired}
-use Rattle.never_cut.specs.Entries.{readings_of}
-use Rattle.never_cut.specs.Journal.{noted, moved, MayNote, IsLegal, after}
-use Rattle.never_cut.specs.Stands.{StandsPrivate}
-use Rattle.never_cut.specs.kept.Steps.{Background}
-use Rattle.never_cut.proofs.Journals.{after-noted, IsLegal-noted}
-use Rattle.never_cut.specs.Within.{Lasts}
-use Rattle.never_cut.proofs.Lasting.{lasts_step, lasts_less}
-use Rattle.never_cut.proofs.SoundStates.{sound_after}
-use Rattle.never_cut.proofs.Follows.{follow_private}
-use Rattle.kernel_core.specs.Kernel.{wants, takes, point_found}
-use Rattle.kernel_core.specs.Record.{with_kernel, with_source}
-use Rattle.kernel_core.specs.Board.{Setup, Board, shape, sides, journal, charged, finds, kernel_access, kernel_turn, source_made, source_turn, entry_of_source, row_of}
-use Rattle.kernel_core.specs.Views.{seen}
-use Rattle.kernel_core.specs.First.{IsSetup}
-use Rattle.kernel_core.specs.Stands.{memory, state}
-use Rattle.kernel_core.specs.kept.Holds.{KernelHolds, HasSize, Holds}
+use Rattle.kernel_core.proofs.Common.{◌≡◌, ℕ, ◌+◌, ◌-◌, ◌<◌, ◌≤◌, cond, Bool, true, false, length, set, Option, Some, None, refl, sym, ap, ◌∙◌, subst, arith, length-set, if◌then◌else◌, Event, Entry, Place, Clock, Memory, perform, answer, place_of, is_valid, Access, performed, at_address, performs, finds_there, performed_there, performed_length, entry_of_point, KernelPoint, valid, below, source_thread, Row, Point, first_row, take_of, point_of, is_left, IsLeft, access, port_of, Kept, SourceStep, source_step, kept_step, access_of-port, Model, ScanModel, thread_of, pending, committed, commit, expired, ended, end_at, consumed, is_expired, readings_of, noted, moved, MayNote, IsLegal, after, StandsPrivate, Background, after-noted, IsLegal-noted, Lasts, lasts_step, lasts_less, sound_after, follow_private, wants, takes, point_found, with_kernel, with_source, Setup, Board, shape, sides, journal, charged, finds, kernel_access, kernel_turn, source_made, source_turn, entry_of_source, row_of, seen, IsSetup, memory, state, KernelHolds, HasSize, Holds}
 use Rattle.ink_layout.specs.declared.kernel_point.KernelPoint.TheVariants as points
 use Rattle.kernel_core.proofs.Sides.{within, shared_of, Becomes-set}
 use Rattle.kernel_core.proofs.Charges.{charged_journal, charged_later}

@@ -1,5 +1,5 @@
 -- The accesses of a scan.
-use Rattle.priority_sched.proofs.Common.{◌≡◌, ℕ, ◌+◌, ◌*◌, ◌<◌, [], length, Option, Some, None, arith, refl, ap, ◌∙◌, sym, ThreadId, TaskId, Program, Memory, Load, ring_index, place_in, pipe_def, Model, ScanModel, thread_of, Readings, IsCalm, flag, Background, IsKept, Lasts, with_scan, scan_private, scan_queues, running_word, finished_word, ScanAt, Clock, Commit, Running, Finished, Origin, Value, First, Slot, Taken, Writer, Written, Item, Timer, Picked, Quiet, ScanMachine, priority_of, scan_at, scan_begun, after_finished, writer_of, ScanHolds, ScanStep, running_of-next_word, running_of}
+use Rattle.priority_sched.proofs.Common.{◌≡◌, ℕ, ◌+◌, ◌*◌, ◌<◌, ◌≤◌, [], length, Option, Some, None, arith, refl, ap, ◌∙◌, sym, ThreadId, TaskId, Program, Memory, Load, ring_index, place_in, pipe_def, Model, ScanModel, thread_of, Readings, IsCalm, flag, Background, IsKept, Lasts, with_scan, scan_private, scan_queues, running_word, finished_word, ScanAt, Clock, Commit, Running, Finished, Origin, Value, First, Slot, Taken, Writer, Written, Item, Timer, Picked, Quiet, ScanMachine, priority_of, scan_at, scan_begun, after_finished, writer_of, ScanHolds, ScanStep, running_of-next_word, running_of}
 use Rattle.fram_words.specs.Places as places
 use Rattle.fram_words.specs.Header as header
 use Rattle.priority_sched.proofs.Nexts.{goes_on}

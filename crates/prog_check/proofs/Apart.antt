@@ -1,11 +1,5 @@
 -- Items before a place of a list, none of which passes a test or has a name.
-use Rattle.std.proofs.Common.{◌≡◌, ◌≢◌, ℕ, ◌<◌, Bool, true, false, List, length, get_or, take, sym, ap, ◌∙◌, inl, inr, arith, get_or-take, length-take, length-take-le}
-use Rattle.std.specs.List.{list_any}
-use Rattle.std.specs.Str.{bytes_eq}
-use Rattle.std.proofs.lemmas.Bool.{cases_Bool, false_from_ne_true, false≢true}
-use Rattle.std.proofs.lemmas.List.Folds.{list_any_at, list_any_none}
-use Rattle.std.proofs.lemmas.Slice.Eq.{bytes_eq-Decides}
-use Rattle.prog_check.specs.Accepted.{AreDistinct}
+use Rattle.prog_check.proofs.Common.{◌≡◌, ◌≢◌, ℕ, ◌<◌, Bool, true, false, List, length, get_or, take, sym, ap, ◌∙◌, inl, inr, arith, get_or-take, length-take, length-take-le, list_any, bytes_eq, cases_Bool, false_from_ne_true, false≢true, list_any_at, list_any_none, bytes_eq-Decides, AreDistinct}
 use Rattle.std.proofs.lemmas.List.{get_or_default}
 
 -- an item before a place whose test fails at each item before it

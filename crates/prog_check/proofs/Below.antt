@@ -1,9 +1,6 @@
 -- What it means that no fault came, and the first fault of a loop.
-use Rattle.std.proofs.Common.{◌≡◌, ℕ, zero, suc, ◌+◌, ◌<◌, Bool, true, false, Option, Some, None, refl, ap, ◌∙◌, inl, inr, ◌⊎◌, arith, add-one}
-use Rattle.std.proofs.lemmas.Bool.{cases_lt}
-use Rattle.ink_base.specs.declared.fault.Cause.{Cause}
-use Rattle.ink_base.specs.declared.fault.JobFault.{JobFault}
-use Rattle.prog_check.specs.Faults.{unless, ◌or_else◌, first_below}
+use Rattle.prog_check.proofs.Common.{◌≡◌, ℕ, zero, suc, ◌+◌, ◌<◌, Bool, true, false, Option, Some, None, refl, ap, ◌∙◌, inl, inr, ◌⊎◌, arith, add-one, cases_lt, Cause, JobFault, unless, ◌or_else◌}
+use Rattle.prog_check.specs.Faults.{first_below}
 
 pub or_else_none : (p q : Option JobFault) → (p or_else q) ≡ None → (p ≡ None) × (q ≡ None)
 or_else_none None q h = (refl, h)

@@ -1,22 +1,6 @@
 -- A program that is accepted has no fault.
-use Rattle.std.proofs.Common.{◌≡◌, ◌≢◌, ℕ, zero, suc, ◌^◌, ◌<◌, ◌≤◌, Bool, true, false, ◌&&◌, ◌||◌, not, eqb, ltb, List, [], ◌∷◌, length, take, Option, Some, None, refl, inl, inr, arith, le-leb, lt-ltb, eq-eqb, ne_eqb}
-use Rattle.std.specs.List.{list_any, position_or_len}
-use Rattle.std.specs.Option.{is_some}
-use Rattle.std.specs.Str.{bytes_eq}
-use Rattle.std.proofs.lemmas.Bool.{cases_Bool, and_from}
-use Rattle.ink_base.specs.declared.fault.Cause.{Cause}
-use Rattle.ink_base.specs.declared.fault.JobFault.{JobFault}
-use Rattle.task_isa.specs.declared.instr.Instr.{Instr}
-use Rattle.task_isa.specs.declared.instr.Instr.TheVariants.{Jmp, Jz, Jnz, Send, Arm, Stop, Next}
-use Rattle.task_isa.specs.declared.lines.Lines.{Lines}
-use Rattle.task_isa.specs.declared.program.ThreadDef.{ThreadDef}
-use Rattle.task_isa.specs.declared.program.PipeDef.{PipeDef}
-use Rattle.task_isa.specs.declared.program.TimerDef.{TimerDef}
-use Rattle.task_isa.specs.declared.program.Task.{Task}
-use Rattle.task_isa.specs.declared.program.Program.{Program}
-use Rattle.prog_check.specs.Lookup.{no_thread_def, no_pipe_def, no_timer_def, no_task_def, thread_def, pipe_def, timer_def, task_def, instr_at}
-use Rattle.prog_check.specs.Accepted.{IsRightThread, IsRightPipe, IsRightTimer, IsRightInstr, IsAccepted}
-use Rattle.prog_check.specs.Faults.{unless, ◌or_else◌, is_between, is_time, is_thread_within, is_thread_taken, is_pipe_owned, is_timer_within, is_owned, served_fault, is_aimed, stays, first_below, thread_fault, source_fault, pipe_fault, timer_fault, instr_fault, task_fault, limit_fault, target_fault, code_fault, meaning_fault, first_fault}
+use Rattle.prog_check.proofs.Common.{◌≡◌, ◌≢◌, ℕ, zero, suc, ◌^◌, ◌<◌, ◌≤◌, Bool, true, false, ◌&&◌, ◌||◌, not, eqb, ltb, List, [], ◌∷◌, length, take, Option, Some, None, refl, inl, inr, arith, le-leb, lt-ltb, eq-eqb, ne_eqb, list_any, position_or_len, is_some, bytes_eq, cases_Bool, and_from, Cause, JobFault, Instr, Jmp, Jz, Jnz, Send, Arm, Stop, Next, Lines, ThreadDef, PipeDef, TimerDef, Task, Program, no_thread_def, no_pipe_def, no_timer_def, no_task_def, thread_def, pipe_def, timer_def, task_def, instr_at, IsRightThread, IsRightPipe, IsRightTimer, IsRightInstr, IsAccepted, unless, ◌or_else◌, is_between, is_time, is_thread_within, is_thread_taken, is_pipe_owned, is_timer_within, is_owned, served_fault, is_aimed, stays}
+use Rattle.prog_check.specs.Faults.{first_below, thread_fault, source_fault, pipe_fault, timer_fault, instr_fault, task_fault, limit_fault, target_fault, code_fault, meaning_fault, first_fault}
 use Rattle.ink_base.specs.declared.limits.TheConstants as limits
 use Rattle.prog_check.proofs.Apart.{none_before, differ, fresh_before}
 

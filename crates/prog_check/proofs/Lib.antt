@@ -1,3 +1,4 @@
+mod Common
 pub mod Below
 pub mod Apart
 pub mod Passed

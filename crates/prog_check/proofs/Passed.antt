@@ -1,21 +1,5 @@
 -- What the tests of one declaration say where they give no fault.
-use Rattle.std.proofs.Common.{◌≡◌, ◌≢◌, ℕ, ◌-◌, ◌^◌, ◌<◌, ◌≤◌, Bool, true, false, ◌&&◌, ◌||◌, not, eqb, ltb, List, [], ◌∷◌, length, get_or, take, Option, Some, None, sym, ap, ◌∙◌, inl, inr, arith, leb-true, ltb-true, eqb-true, eq-eqb, get_or-take, length-take}
-use Rattle.std.specs.List.{list_any, position_or_len}
-use Rattle.std.specs.Str.{bytes_eq}
-use Rattle.std.proofs.lemmas.Bool.{cases_Bool, and_parts, not-true, false≢true}
-use Rattle.std.specs.Option.{is_some}
-use Rattle.std.proofs.lemmas.List.Folds.{list_any_at}
-use Rattle.std.proofs.lemmas.Slice.Eq.{bytes_eq-Decides}
-use Rattle.task_isa.specs.declared.instr.Instr.{Instr}
-use Rattle.task_isa.specs.declared.instr.Instr.TheVariants.{Jmp, Jz, Jnz, Send, Arm, Stop, Next}
-use Rattle.task_isa.specs.declared.program.ThreadDef.{ThreadDef}
-use Rattle.task_isa.specs.declared.program.PipeDef.{PipeDef}
-use Rattle.task_isa.specs.declared.program.TimerDef.{TimerDef}
-use Rattle.task_isa.specs.declared.program.Task.{Task}
-use Rattle.task_isa.specs.declared.program.Program.{Program}
-use Rattle.prog_check.specs.Lookup.{instr_at, first_task}
-use Rattle.prog_check.specs.Accepted.{IsRightThread, IsRightPipe, IsRightTimer, IsRightInstr, ends_code}
-use Rattle.prog_check.specs.Faults.{is_between, is_time, is_thread_within, has_thread, is_pipe_owned, is_timer_within, is_owned, has_task, is_aimed, stays, has_end}
+use Rattle.prog_check.proofs.Common.{◌≡◌, ◌≢◌, ℕ, ◌-◌, ◌^◌, ◌<◌, ◌≤◌, Bool, true, false, ◌&&◌, ◌||◌, not, eqb, ltb, List, [], ◌∷◌, length, get_or, take, Option, Some, None, sym, ap, ◌∙◌, inl, inr, arith, leb-true, ltb-true, eqb-true, eq-eqb, get_or-take, length-take, list_any, position_or_len, bytes_eq, cases_Bool, and_parts, not-true, false≢true, is_some, list_any_at, bytes_eq-Decides, Instr, Jmp, Jz, Jnz, Send, Arm, Stop, Next, ThreadDef, PipeDef, TimerDef, Task, Program, instr_at, first_task, IsRightThread, IsRightPipe, IsRightTimer, IsRightInstr, ends_code, is_between, is_time, is_thread_within, has_thread, is_pipe_owned, is_timer_within, is_owned, has_task, is_aimed, stays, has_end}
 use Rattle.ink_base.specs.declared.limits.TheConstants as limits
 
 pub between : (least greatest n : ℕ) → is_between least greatest n ≡ true → (least ≤ n) × (n ≤ greatest)

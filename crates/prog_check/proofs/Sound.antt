@@ -1,16 +1,6 @@
 -- A program without a fault is one that is accepted.
-use Rattle.std.proofs.Common.{◌≤◌, ◌≡◌, ◌≢◌, ℕ, ◌<◌, true, false, ◌||◌, eqb, length, take, None, sym, ◌∙◌, leb-true, ltb-true, eq-eqb}
-use Rattle.std.specs.Str.{bytes_eq}
-use Rattle.std.proofs.lemmas.Bool.{or_parts, not-true, false≢true}
-use Rattle.task_isa.specs.declared.lines.Lines.{Lines}
-use Rattle.task_isa.specs.declared.program.ThreadDef.{ThreadDef}
-use Rattle.task_isa.specs.declared.program.PipeDef.{PipeDef}
-use Rattle.task_isa.specs.declared.program.TimerDef.{TimerDef}
-use Rattle.task_isa.specs.declared.program.Task.{Task}
-use Rattle.task_isa.specs.declared.program.Program.{Program}
-use Rattle.prog_check.specs.Lookup.{no_thread_def, no_pipe_def, no_timer_def, no_task_def, thread_def, source_thread, pipe_def, timer_def, task_def, instr_at}
-use Rattle.prog_check.specs.Accepted.{HasCounts, HasDistinct, HasFittingCode, IsRightTask, IsAccepted}
-use Rattle.prog_check.specs.Faults.{is_between, is_thread_within, is_thread_taken, has_thread, is_pipe_taken, is_pipe_owned, is_timer_within, is_timer_taken, is_owned, is_task_taken, has_task, served_fault, is_aimed, stays, has_end, thread_fault, source_fault, pipe_fault, timer_fault, instr_fault, task_fault, limit_fault, target_fault, code_fault, meaning_fault, first_fault}
+use Rattle.prog_check.proofs.Common.{◌≤◌, ◌≡◌, ◌≢◌, ℕ, ◌<◌, true, false, ◌||◌, eqb, length, take, None, sym, ◌∙◌, leb-true, ltb-true, eq-eqb, bytes_eq, or_parts, not-true, false≢true, Lines, ThreadDef, PipeDef, TimerDef, Task, Program, no_thread_def, no_pipe_def, no_timer_def, no_task_def, thread_def, source_thread, pipe_def, timer_def, task_def, instr_at, HasCounts, HasDistinct, HasFittingCode, IsRightTask, IsAccepted, is_between, is_thread_within, is_thread_taken, has_thread, is_pipe_taken, is_pipe_owned, is_timer_within, is_timer_taken, is_owned, is_task_taken, has_task, served_fault, is_aimed, stays, has_end}
+use Rattle.prog_check.specs.Faults.{thread_fault, source_fault, pipe_fault, timer_fault, instr_fault, task_fault, limit_fault, target_fault, code_fault, meaning_fault, first_fault}
 use Rattle.ink_base.specs.declared.limits.TheConstants as limits
 use Rattle.prog_check.proofs.Below.{or_else_none, unless_none, each_none}
 use Rattle.prog_check.proofs.Passed.{between, thread_within, pipe_right, timer_right, instr_right, task_ends, task_found}

@@ -1,18 +1,5 @@
 -- The canonical text of an accepted program can be read.
-use Rattle.std.proofs.Common.{◌≡◌, ℕ, zero, suc, ◌+◌, ◌<◌, ◌≤◌, ◌^◌, true, eqb, List, [], ◌∷◌, length, take, get_or, refl, ◌∙◌, arith, ne_eqb, length-take-le}
-use Rattle.std.specs.List.{sum_by}
-use Rattle.ink_base.specs.Lines.{Word}
-use Rattle.task_isa.specs.Names.{is_name}
-use Rattle.task_isa.specs.Lookup.{no_thread, no_thread_def, no_pipe_def, no_timer_def, no_task_def, thread_def, pipe_def, timer_def, task_def}
-use Rattle.task_isa.specs.declared.instr.Instr.TheVariants.{Done}
-use Rattle.task_isa.specs.declared.program.ThreadDef.{ThreadDef}
-use Rattle.task_isa.specs.declared.program.Task.{Task}
-use Rattle.task_isa.specs.declared.program.Program.{Program}
-use Rattle.prog_check.specs.Accepted.{AreDistinct, IsAccepted}
-use Rattle.prog_check.proofs.Apart.{none_before, fresh_before}
-use Rattle.task_lines.specs.Devices.{pipe_name, timer_name}
-use Rattle.task_lines.specs.Forms.{thread_name}
-use Rattle.program_text.specs.Typed.{IsTyped}
+use Rattle.program_text.proofs.Common.{◌≡◌, ℕ, zero, suc, ◌+◌, ◌<◌, ◌≤◌, ◌^◌, true, eqb, List, [], ◌∷◌, length, take, get_or, refl, ◌∙◌, arith, ne_eqb, length-take-le, sum_by, Word, is_name, no_thread, no_thread_def, no_pipe_def, no_timer_def, no_task_def, thread_def, pipe_def, timer_def, task_def, Done, ThreadDef, Task, Program, AreDistinct, IsAccepted, none_before, fresh_before, pipe_name, timer_name, thread_name, IsTyped}
 use Rattle.std.proofs.lemmas.List.Recursion.{is_sum_by}
 use Rattle.program_text.proofs.LineByLine.{all_behind, by_number}
 use Rattle.program_text.proofs.FormsAgain.{IsNew, CanThread}

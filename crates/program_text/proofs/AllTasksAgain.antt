@@ -1,14 +1,6 @@
 -- Printed tasks are read as the tasks.
-use Rattle.std.proofs.Common.{◌≡◌, ℕ, suc, ◌+◌, not, List, [], ◌∷◌, ◌++◌, length, None, Ok, codes, refl, sym, ap, ◌∙◌, arith, add-zero, length-append}
-use Rattle.std.specs.List.{flat_map, prefix_len}
-use Rattle.std.specs.Str.{bytes_eq}
-use Rattle.ink_base.specs.Lines.{Word}
-use Rattle.task_isa.specs.declared.program.Task.{Task}
-use Rattle.task_isa.specs.declared.program.Program.{Program}
-use Rattle.task_lines.specs.declared.draft.DraftTask.{DraftTask}
-use Rattle.task_lines.specs.declared.draft.Draft.{Draft}
-use Rattle.task_lines.specs.Named.{is_taken, place_of}
-use Rattle.task_lines.specs.Outside.{task_name, outside_line}
+use Rattle.program_text.proofs.Common.{◌≡◌, ℕ, suc, ◌+◌, not, List, [], ◌∷◌, ◌++◌, length, None, Ok, codes, refl, sym, ap, ◌∙◌, arith, add-zero, length-append, flat_map, prefix_len, bytes_eq, Word, Task, Program, DraftTask, Draft, is_taken, place_of, task_name}
+use Rattle.task_lines.specs.Outside.{outside_line}
 use Rattle.ink_base.specs.Checks.{end_in}
 use Rattle.task_lines.specs.Task.{end_line, inside_line, line_in}
 use Rattle.program_text.proofs.Spelled.{lines_below, task_words, task_lines}

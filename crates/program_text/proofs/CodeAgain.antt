@@ -1,16 +1,5 @@
 -- The line of each instruction is read as it.
-use Rattle.std.proofs.Common.{◌≡◌, ℕ, ◌<◌, length, Some, None, Ok, sym, ap, ◌∙◌, arith}
-use Rattle.ink_base.specs.declared.ids.ThreadId.{ThreadId}
-use Rattle.task_isa.specs.Code.{IsInstr}
-use Rattle.task_isa.specs.Lookup.{task_def}
-use Rattle.task_isa.specs.declared.instr.Instr.{Instr}
-use Rattle.task_isa.specs.declared.instr.Instr.TheVariants.{Li, Mov, Add, Sub, Mul, And, Or, Xor, Shl, Shr, Divu, Remu, Ltu, Eq, Jmp, Jz, Jnz, Ev, Kind, Num, Now, Ld, St, Out, Send, Arm, Stop, Next, Done}
-use Rattle.task_isa.specs.declared.program.Task.{Task}
-use Rattle.task_isa.specs.declared.program.Program.{Program}
-use Rattle.prog_check.specs.Accepted.{IsRightInstr}
-use Rattle.task_lines.specs.declared.draft.DraftTask.{DraftTask}
-use Rattle.task_lines.specs.declared.draft.Draft.{Draft}
-use Rattle.task_lines.specs.Task.{line_in}
+use Rattle.program_text.proofs.Common.{◌≡◌, ℕ, ◌<◌, length, Some, None, Ok, sym, ap, ◌∙◌, arith, ThreadId, IsInstr, task_def, Instr, Li, Mov, Add, Sub, Mul, And, Or, Xor, Shl, Shr, Divu, Remu, Ltu, Eq, Jmp, Jz, Jnz, Ev, Kind, Num, Now, Ld, St, Out, Send, Arm, Stop, Next, Done, Task, Program, IsRightInstr, DraftTask, Draft, line_in}
 use Rattle.task_lines.specs.declared.op.OneOp.TheVariants as ones
 use Rattle.task_lines.specs.declared.op.TwoOp.TheVariants as twos
 use Rattle.task_lines.specs.declared.op.ThreeOp.TheVariants as threes

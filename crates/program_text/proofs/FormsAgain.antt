@@ -1,19 +1,7 @@
 -- The declarations of the canonical text are read as what was declared.
-use Rattle.std.proofs.Common.{◌≡◌, ℕ, ◌<◌, ◌≤◌, true, false, List, [], ◌∷◌, ◌++◌, length, drop, get_or, Option, Some, None, Ok, codes, decimal, refl, sym, ap, arith, lt-ltb, ne_eqb}
-use Rattle.std.specs.Option.{ForSome, ForNone}
-use Rattle.ink_base.specs.Lines.{Word}
-use Rattle.ink_base.specs.declared.ids.ThreadId.{ThreadId}
-use Rattle.task_isa.specs.Names.{is_name}
-use Rattle.task_isa.specs.Lookup.{no_thread_def}
-use Rattle.task_isa.specs.declared.program.ThreadDef.{ThreadDef}
-use Rattle.task_isa.specs.declared.program.PipeDef.{PipeDef}
-use Rattle.task_isa.specs.declared.program.TimerDef.{TimerDef}
-use Rattle.task_isa.specs.declared.program.Program.{Program}
-use Rattle.prog_check.specs.Accepted.{AreDistinct, IsRightThread, IsRightPipe, IsRightTimer}
-use Rattle.task_lines.specs.declared.draft.Draft.{Draft}
-use Rattle.task_lines.specs.Named.{is_taken}
-use Rattle.task_lines.specs.Forms.{thread_name, has_priority, priority_in, expires_in, thread_line, source_line}
-use Rattle.task_lines.specs.Devices.{pipe_name, timer_name, reader_in, pipe_line, due_in, off_in, start_in, timer_line}
+use Rattle.program_text.proofs.Common.{◌≡◌, ℕ, ◌<◌, ◌≤◌, true, false, List, [], ◌∷◌, ◌++◌, length, drop, get_or, Option, Some, None, Ok, codes, decimal, refl, sym, ap, arith, lt-ltb, ne_eqb, ForSome, ForNone, Word, ThreadId, is_name, no_thread_def, ThreadDef, PipeDef, TimerDef, Program, AreDistinct, IsRightThread, IsRightPipe, IsRightTimer, Draft, is_taken, thread_name, has_priority, pipe_name, timer_name}
+use Rattle.task_lines.specs.Forms.{priority_in, expires_in, thread_line, source_line}
+use Rattle.task_lines.specs.Devices.{reader_in, pipe_line, due_in, off_in, start_in, timer_line}
 use Rattle.ink_base.specs.declared.limits.TheConstants as limits
 use Rattle.ink_base.specs.Checks.{word_in, end_in}
 use Rattle.program_text.proofs.Spelled.{expires_words, thread_words, source_words, pipe_words, start_words, timer_words}

@@ -1,20 +1,7 @@
 -- The instructions of the canonical text are read as those that were printed, whose targets are names.
-use Rattle.std.proofs.Common.{◌≡◌, ℕ, ◌+◌, ◌<◌, ◌≤◌, ◌^◌, true, false, List, [], ◌∷◌, ◌++◌, length, get_or, Some, None, Ok, codes, decimal, refl, arith, lt-ltb, eq-eqb}
-use Rattle.std.specs.Str.{bytes_eq}
-use Rattle.ink_base.specs.Lines.{Word}
-use Rattle.ink_base.specs.declared.ids.ThreadId.{ThreadId}
-use Rattle.task_isa.specs.Names.{is_name}
-use Rattle.task_isa.specs.Code.{FitsWord}
-use Rattle.task_isa.specs.Lookup.{no_pipe_def, no_timer_def, task_def}
-use Rattle.task_isa.specs.declared.instr.Instr.{Instr}
-use Rattle.task_isa.specs.declared.instr.Instr.TheVariants.{Li, Jmp, Jz, Jnz, Send, Arm, Stop, Next, Done}
-use Rattle.task_isa.specs.declared.program.Task.{Task}
-use Rattle.task_isa.specs.declared.program.Program.{Program}
-use Rattle.prog_check.specs.Accepted.{HasDistinct}
-use Rattle.task_lines.specs.declared.draft.DraftTask.{DraftTask}
-use Rattle.task_lines.specs.declared.draft.Draft.{Draft}
-use Rattle.task_lines.specs.Devices.{pipe_name, timer_name, own_pipe_in, own_timer_in}
-use Rattle.task_lines.specs.Task.{label_of, instr_line, inside_line, line_in}
+use Rattle.program_text.proofs.Common.{◌≡◌, ℕ, ◌+◌, ◌<◌, ◌≤◌, ◌^◌, true, false, List, [], ◌∷◌, ◌++◌, length, get_or, Some, None, Ok, codes, decimal, refl, arith, lt-ltb, eq-eqb, bytes_eq, Word, ThreadId, is_name, FitsWord, no_pipe_def, no_timer_def, task_def, Instr, Li, Jmp, Jz, Jnz, Send, Arm, Stop, Next, Done, Task, Program, HasDistinct, DraftTask, Draft, pipe_name, timer_name, label_of}
+use Rattle.task_lines.specs.Devices.{own_pipe_in, own_timer_in}
+use Rattle.task_lines.specs.Task.{instr_line, inside_line, line_in}
 use Rattle.ink_base.specs.Checks.{word_in, end_in}
 use Rattle.task_lines.specs.declared.draft.DraftInstr.{DraftInstr}
 use Rattle.task_lines.specs.declared.draft.DraftInstr.TheVariants as drafts

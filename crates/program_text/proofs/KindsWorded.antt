@@ -1,14 +1,5 @@
 -- The lines of a whole printed program are lines of words, and none behind the first is a header.
-use Rattle.std.proofs.Common.{◌≡◌, true, List, [], ◌∷◌, length, get_or, refl, ◌∙◌}
-use Rattle.std.specs.List.{list_all, flat_map, AllByRecursion}
-use Rattle.std.proofs.lemmas.Bool.{and_parts, and_from}
-use Rattle.std.proofs.lemmas.List.Folds.{list_all-append}
-use Rattle.ink_base.specs.Lines.{Word}
-use Rattle.task_isa.specs.Lookup.{no_thread, no_thread_def, no_pipe_def, no_timer_def, no_task_def, thread_def, pipe_def, timer_def, task_def}
-use Rattle.task_isa.specs.declared.instr.Instr.TheVariants.{Done}
-use Rattle.task_isa.specs.declared.program.Program.{Program}
-use Rattle.prog_check.specs.Accepted.{IsAccepted}
-use Rattle.program_text.specs.Typed.{IsTyped}
+use Rattle.program_text.proofs.Common.{◌≡◌, true, List, [], ◌∷◌, length, get_or, refl, ◌∙◌, list_all, flat_map, AllByRecursion, and_parts, and_from, list_all-append, Word, no_thread, no_thread_def, no_pipe_def, no_timer_def, no_task_def, thread_def, pipe_def, timer_def, task_def, Done, Program, IsAccepted, IsTyped}
 use Rattle.program_text.proofs.Rendering.{are_words}
 use Rattle.program_text.proofs.Spelled.{chain, thread_lines, source_lines, pipe_lines, timer_lines, task_lines, thread_words, source_words, pipe_words, timer_words, kinds}
 use Rattle.program_text.proofs.LineByLine.{no_header}

@@ -1,13 +1,5 @@
 -- The marks of the offsets to which jumps go.
-use Rattle.std.proofs.Common.{◌≡◌, ℕ, ◌<◌, Bool, true, false, ◌||◌, eqb, List, [], ◌∷◌, ◌++◌, length, get_or, refl, sym, ap, ◌∙◌, inl, inr, arith, eqb-true, get_or-set_same, get_or-set_other, length-set}
-use Rattle.std.proofs.Math.ListN.{set, replicate}
-use Rattle.std.proofs.lemmas.Bool.{cases_Bool, eqb-false}
-use Rattle.std.proofs.lemmas.List.{get_or-replicate, length-replicate}
-use Rattle.std.proofs.lemmas.List.Folds.{list_any-append}
-use Rattle.task_isa.specs.declared.instr.Instr.{Instr}
-use Rattle.task_isa.specs.declared.instr.Instr.TheVariants.{Jmp, Jz, Jnz}
-use Rattle.program_text.specs.Print.{jumps_to, is_target}
-use Rattle.program_text.specs.Marks.{AreMarks, with_mark}
+use Rattle.program_text.proofs.Common.{◌≡◌, ℕ, ◌<◌, Bool, true, false, ◌||◌, eqb, List, [], ◌∷◌, ◌++◌, length, get_or, refl, sym, ap, ◌∙◌, inl, inr, arith, eqb-true, get_or-set_same, get_or-set_other, length-set, set, replicate, cases_Bool, eqb-false, get_or-replicate, length-replicate, list_any-append, Instr, Jmp, Jz, Jnz, jumps_to, is_target, AreMarks, with_mark}
 use Rattle.std.proofs.Math.Bool.{or-false}
 
 pub AreMarks-none : (count : ℕ) → AreMarks (replicate count false) count []

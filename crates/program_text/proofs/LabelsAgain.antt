@@ -1,13 +1,5 @@
 -- The labels of the canonical text are found at their offsets.
-use Rattle.std.proofs.Common.{◌≡◌, ℕ, zero, suc, ◌<◌, ◌≤◌, true, false, cond, List, [], ◌∷◌, drop, Some, None, Option, refl, sym, ap, ◌∙◌, inl, inr, arith}
-use Rattle.std.specs.Str.{bytes_eq}
-use Rattle.std.proofs.lemmas.Bool.{cases_Bool, cases_eq}
-use Rattle.std.proofs.lemmas.Fmt.{decimal_injective}
-use Rattle.ink_base.specs.Lines.{Word}
-use Rattle.task_isa.specs.declared.instr.Instr.{Instr}
-use Rattle.task_lines.specs.Labels.{offset_of, with_label}
-use Rattle.program_text.specs.Print.{is_target}
-use Rattle.prog_check.proofs.Apart.{differ}
+use Rattle.program_text.proofs.Common.{◌≡◌, ℕ, zero, suc, ◌<◌, ◌≤◌, true, false, cond, List, [], ◌∷◌, drop, Some, None, Option, refl, sym, ap, ◌∙◌, inl, inr, arith, bytes_eq, cases_Bool, cases_eq, decimal_injective, Word, Instr, offset_of, with_label, is_target, differ}
 use Rattle.task_lines.proofs.LabelMap.{lookup_last, option_or_none}
 use Rattle.program_text.proofs.Spelled.{label_name}
 use Rattle.program_text.proofs.NamesAgain.{same}

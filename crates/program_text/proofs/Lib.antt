@@ -1,3 +1,4 @@
+mod Common
 pub mod LabelMarks
 pub mod Printing
 pub mod Rendering

@@ -1,14 +1,5 @@
 -- Lines that are read one after the other.
-use Rattle.std.proofs.Common.{◌≡◌, ℕ, suc, ◌+◌, ◌<◌, Bool, true, not, List, [], ◌∷◌, ◌++◌, length, take, get_or, Result, Ok, Err, refl, subst, sym, ap, ◌∙◌, append_assoc, add-zero, arith, append-nil}
-use Rattle.std.specs.List.{list_all, flat_map, AllByRecursion}
-use Rattle.std.proofs.lemmas.Bool.{and_parts, not-true}
-use Rattle.std.proofs.lemmas.List.Elements.{All-from_get_or, recursion_from_All}
-use Rattle.ink_base.specs.Lines.{Word, Line}
-use Rattle.ink_base.specs.Gives.{◌>>=◌, ◌>>◌, at_line}
-use Rattle.ink_text.specs.Section.{is_header, lines_in}
-use Rattle.ink_text.proofs.Lines.{at_other}
-use Rattle.task_lines.specs.declared.draft.Draft.{Draft}
-use Rattle.task_lines.specs.Task.{line_in}
+use Rattle.program_text.proofs.Common.{◌≡◌, ℕ, suc, ◌+◌, ◌<◌, Bool, true, not, List, [], ◌∷◌, ◌++◌, length, take, get_or, Result, Ok, Err, refl, subst, sym, ap, ◌∙◌, append_assoc, add-zero, arith, append-nil, list_all, flat_map, AllByRecursion, and_parts, not-true, All-from_get_or, recursion_from_All, Word, Line, ◌>>=◌, ◌>>◌, at_line, is_header, lines_in, at_other, Draft, line_in}
 use Rattle.ink_base.specs.declared.fault.Cause.{Cause}
 use Rattle.program_text.proofs.Rendering.{with_numbers}
 

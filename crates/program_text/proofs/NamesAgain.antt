@@ -1,16 +1,6 @@
 -- The place of a name among items whose names differ.
-use Rattle.std.proofs.Common.{◌≡◌, ℕ, ◌<◌, Bool, true, false, List, ◌∷◌, length, get_or, take, Some, Ok, refl, ap, ◌∙◌, arith, lt-ltb, get_or-take, length-take-le}
-use Rattle.std.specs.Str.{bytes_eq}
-use Rattle.std.specs.List.{list_any, position_or_len}
-use Rattle.std.proofs.lemmas.Bool.{false_from_ne_true}
-use Rattle.std.proofs.lemmas.List.{get_or_default}
-use Rattle.std.proofs.lemmas.List.Folds.{list_any_none}
-use Rattle.std.proofs.lemmas.Slice.Eq.{bytes_eq-Decides}
-use Rattle.ink_base.specs.Lines.{Word}
-use Rattle.prog_check.specs.Accepted.{AreDistinct}
-use Rattle.prog_check.proofs.Apart.{differ}
-use Rattle.task_lines.specs.Named.{place_of, is_taken, fresh_of, new_name_in, declared_in}
-use Rattle.task_isa.specs.Names.{is_name}
+use Rattle.program_text.proofs.Common.{◌≡◌, ℕ, ◌<◌, Bool, true, false, List, ◌∷◌, length, get_or, take, Some, Ok, refl, ap, ◌∙◌, arith, lt-ltb, get_or-take, length-take-le, bytes_eq, list_any, position_or_len, false_from_ne_true, get_or_default, list_any_none, bytes_eq-Decides, Word, AreDistinct, differ, place_of, is_taken, is_name}
+use Rattle.task_lines.specs.Named.{fresh_of, new_name_in, declared_in}
 use Rattle.std.proofs.lemmas.List.Sums.{position_or_len_is}
 use Rattle.ink_base.specs.Checks.{word_in}
 

@@ -1,5 +1,5 @@
 -- The words of instructions.
-use Rattle.std.proofs.Common.{codes, refl}
+use Rattle.program_text.proofs.Common.{codes, refl}
 use Rattle.task_lines.specs.declared.op.Op.TheVariants as ops
 use Rattle.task_lines.specs.declared.op.OneOp.TheVariants as ones
 use Rattle.task_lines.specs.declared.op.TwoOp.TheVariants as twos

@@ -1,11 +1,5 @@
 -- What is printed of the parts of a program, one part more.
-use Rattle.std.proofs.Common.{◌≡◌, ℕ, ◌+◌, ◌<◌, List, ◌∷◌, [], ◌++◌, length, take, get_or, sym, ap, subst, ◌∙◌}
-use Rattle.std.specs.List.{All, flat_map}
-use Rattle.std.proofs.Math.Numerals.{add-one}
-use Rattle.std.proofs.lemmas.List.{take_more, flat_map_more}
-use Rattle.std.proofs.lemmas.List.Elements.{All-more}
-use Rattle.program_text.specs.Print.{each_below}
-use Rattle.program_text.specs.Typed.{IsNamed}
+use Rattle.program_text.proofs.Common.{◌≡◌, ℕ, ◌+◌, ◌<◌, List, ◌∷◌, [], ◌++◌, length, take, get_or, sym, ap, subst, ◌∙◌, All, flat_map, add-one, take_more, flat_map_more, All-more, each_below, IsNamed}
 
 pub each_below_more : (n : ℕ) (text : ℕ → List ℕ) → each_below (n + 1) text ≡ each_below n text ++ text n
 each_below_more n text = ap (λ (m : ℕ). each_below m text) (add-one n)

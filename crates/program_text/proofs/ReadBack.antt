@@ -1,19 +1,5 @@
 -- The canonical text of an accepted program, with the next section behind it, is read as the program.
-use Rattle.std.proofs.Common.{◌≡◌, ℕ, zero, suc, ◌+◌, true, List, [], ◌∷◌, ◌++◌, length, map, Ok, codes, refl, sym, ap, ◌∙◌, arith, append-nil, length-append}
-use Rattle.std.specs.List.{list_all}
-use Rattle.std.proofs.lemmas.List.{length-map}
-use Rattle.ink_base.specs.Lines.{Word, Line, lines, numbered, lines_of}
-use Rattle.ink_base.specs.TokenLines.{with_words}
-use Rattle.task_isa.specs.Lookup.{instr_at}
-use Rattle.task_isa.specs.declared.program.Task.{Task}
-use Rattle.task_isa.specs.declared.program.Program.{Program}
-use Rattle.prog_check.specs.Accepted.{IsAccepted}
-use Rattle.task_lines.specs.declared.draft.DraftLine.{DraftLine}
-use Rattle.task_lines.specs.declared.draft.DraftTask.{DraftTask}
-use Rattle.program_text.specs.Print.{print_of}
-use Rattle.program_text.specs.Reread.{HasLines, ReadsBack}
-use Rattle.task_asm.specs.Section.{code_lines, program_in}
-use Rattle.program_text.specs.Typed.{IsTyped}
+use Rattle.program_text.proofs.Common.{◌≡◌, ℕ, zero, suc, ◌+◌, true, List, [], ◌∷◌, ◌++◌, length, map, Ok, codes, refl, sym, ap, ◌∙◌, arith, append-nil, length-append, list_all, length-map, Word, Line, lines, numbered, lines_of, with_words, instr_at, Task, Program, IsAccepted, DraftLine, DraftTask, print_of, HasLines, ReadsBack, code_lines, program_in, IsTyped}
 use Rattle.prog_check.proofs.Complete.{no_fault}
 use Rattle.program_text.proofs.Rendering.{are_words, text_of, with_numbers, lines_again, with_words_again}
 use Rattle.program_text.proofs.Spelled.{task_lines, program_lines}

@@ -1,9 +1,5 @@
 -- The lines of a text that is made of words.
-use Rattle.std.proofs.Common.{◌≡◌, ℕ, ◌+◌, Bool, true, false, not, ◌||◌, eqb, List, [], ◌∷◌, ◌++◌, length, refl, sym, ap, ◌∙◌, append_assoc, add-zero, arith, append-nil}
-use Rattle.std.specs.List.{flat_map, list_all, AllByRecursion}
-use Rattle.std.proofs.lemmas.Bool.{and_parts, or_parts, not-true}
-use Rattle.ink_base.specs.Lines.{Word, Line, onto_first, lines, before_comment, words, numbered}
-use Rattle.ink_base.specs.TokenLines.{with_words}
+use Rattle.program_text.proofs.Common.{◌≡◌, ℕ, ◌+◌, Bool, true, false, not, ◌||◌, eqb, List, [], ◌∷◌, ◌++◌, length, refl, sym, ap, ◌∙◌, append_assoc, add-zero, arith, append-nil, flat_map, list_all, AllByRecursion, and_parts, or_parts, not-true, Word, Line, onto_first, lines, before_comment, words, numbered, with_words}
 use Rattle.ink_base.specs.Walk.{ends_word}
 use Rattle.ink_base.proofs.Walk.{IsPlain, piece, words_end, words_blank}
 

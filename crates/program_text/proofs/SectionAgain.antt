@@ -1,20 +1,5 @@
 -- The lines of a printed program are read as the program.
-use Rattle.std.proofs.Common.{◌≡◌, ℕ, zero, suc, ◌+◌, ◌<◌, List, [], ◌∷◌, ◌++◌, length, None, Result, Ok, refl, sym, ap, ◌∙◌, arith, length-append}
-use Rattle.std.specs.List.{flat_map, AllByRecursion}
-use Rattle.std.proofs.Math.Numerals.{add-one}
-use Rattle.std.proofs.lemmas.List.{length_push}
-use Rattle.ink_base.specs.declared.ids.ThreadId.{ThreadId}
-use Rattle.ink_base.specs.declared.fault.JobFault.{JobFault}
-use Rattle.ink_base.specs.Gives.{◌>>◌}
-use Rattle.task_isa.specs.declared.program.ThreadDef.{ThreadDef}
-use Rattle.task_isa.specs.declared.program.PipeDef.{PipeDef}
-use Rattle.task_isa.specs.declared.program.TimerDef.{TimerDef}
-use Rattle.task_isa.specs.declared.program.Task.{Task}
-use Rattle.task_isa.specs.declared.program.Program.{Program}
-use Rattle.prog_check.specs.Accepted.{HasDistinct, IsRightPipe, IsRightTimer}
-use Rattle.task_lines.specs.declared.draft.Draft.{Draft}
-use Rattle.task_lines.specs.Devices.{pipe_name, timer_name}
-use Rattle.task_asm.specs.Section.{empty_draft}
+use Rattle.program_text.proofs.Common.{◌≡◌, ℕ, zero, suc, ◌+◌, ◌<◌, List, [], ◌∷◌, ◌++◌, length, None, Result, Ok, refl, sym, ap, ◌∙◌, arith, length-append, flat_map, AllByRecursion, add-one, length_push, ThreadId, JobFault, ◌>>◌, ThreadDef, PipeDef, TimerDef, Task, Program, HasDistinct, IsRightPipe, IsRightTimer, Draft, pipe_name, timer_name, empty_draft}
 use Rattle.task_lines.specs.Outside.{outside_line}
 use Rattle.task_asm.specs.Targets.{program_of}
 use Rattle.task_lines.specs.Task.{line_in}

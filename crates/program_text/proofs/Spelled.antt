@@ -1,17 +1,6 @@
 -- The lines of a program's canonical text, as words.
-use Rattle.std.proofs.Common.{ℕ, zero, suc, Bool, true, false, List, [], ◌∷◌, ◌++◌, length, Option, Some, None, codes, decimal}
-use Rattle.std.specs.List.{flat_map}
-use Rattle.ink_base.specs.Lines.{Word}
-use Rattle.ink_base.specs.declared.ids.ThreadId.{ThreadId}
-use Rattle.task_isa.specs.Lookup.{pipe_def, timer_def, task_def, instr_at}
-use Rattle.task_isa.specs.declared.instr.Instr.{Instr}
-use Rattle.task_isa.specs.declared.instr.Instr.TheVariants.{Li, Mov, Add, Sub, Mul, And, Or, Xor, Shl, Shr, Divu, Remu, Ltu, Eq, Jmp, Jz, Jnz, Ev, Kind, Num, Now, Ld, St, Out, Send, Arm, Stop, Next, Done}
-use Rattle.task_isa.specs.declared.program.ThreadDef.{ThreadDef}
-use Rattle.task_isa.specs.declared.program.PipeDef.{PipeDef}
-use Rattle.task_isa.specs.declared.program.TimerDef.{TimerDef}
-use Rattle.task_isa.specs.declared.program.Task.{Task}
-use Rattle.task_isa.specs.declared.program.Program.{Program}
-use Rattle.program_text.specs.Print.{is_target, thread_name}
+use Rattle.program_text.proofs.Common.{ℕ, zero, suc, Bool, true, false, List, [], ◌∷◌, ◌++◌, length, Option, Some, None, codes, decimal, flat_map, Word, ThreadId, pipe_def, timer_def, task_def, instr_at, Instr, Li, Mov, Add, Sub, Mul, And, Or, Xor, Shl, Shr, Divu, Remu, Ltu, Eq, Jmp, Jz, Jnz, Ev, Kind, Num, Now, Ld, St, Out, Send, Arm, Stop, Next, Done, ThreadDef, PipeDef, TimerDef, Task, Program, is_target}
+use Rattle.program_text.specs.Print.{thread_name}
 
 -- lists one behind the other, and what follows them
 abbrev pub chain : {A : Type 0} → List (List A) → List A → List A

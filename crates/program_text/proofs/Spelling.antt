@@ -1,17 +1,6 @@
 -- The canonical text of a program is the text of its lines.
-use Rattle.std.proofs.Common.{◌≡◌, ℕ, zero, suc, Bool, true, false, List, [], ◌∷◌, ◌++◌, length, Option, Some, None, codes, decimal, refl, sym, ap, ◌∙◌, append_assoc, append-nil}
-use Rattle.std.specs.List.{flat_map}
-use Rattle.ink_base.specs.Lines.{Word}
-use Rattle.ink_base.specs.declared.ids.ThreadId.{ThreadId}
-use Rattle.task_isa.specs.Lookup.{pipe_def, timer_def, instr_at}
-use Rattle.task_isa.specs.declared.instr.Instr.{Instr}
-use Rattle.task_isa.specs.declared.instr.Instr.TheVariants.{Li, Mov, Add, Sub, Mul, And, Or, Xor, Shl, Shr, Divu, Remu, Ltu, Eq, Jmp, Jz, Jnz, Ev, Kind, Num, Now, Ld, St, Out, Send, Arm, Stop, Next, Done}
-use Rattle.task_isa.specs.declared.program.ThreadDef.{ThreadDef}
-use Rattle.task_isa.specs.declared.program.PipeDef.{PipeDef}
-use Rattle.task_isa.specs.declared.program.TimerDef.{TimerDef}
-use Rattle.task_isa.specs.declared.program.Task.{Task}
-use Rattle.task_isa.specs.declared.program.Program.{Program}
-use Rattle.program_text.specs.Print.{expires_text, sizes_text, thread_text, source_text, ends_text, pipe_text, start_text, timer_text, register_text, one_text, two_text, three_text, jump_text, is_target, label_text, line_text as lines_at, each_below, task_line, task_text, print_of, thread_name, instr_text}
+use Rattle.program_text.proofs.Common.{◌≡◌, ℕ, zero, suc, Bool, true, false, List, [], ◌∷◌, ◌++◌, length, Option, Some, None, codes, decimal, refl, sym, ap, ◌∙◌, append_assoc, append-nil, flat_map, Word, ThreadId, pipe_def, timer_def, instr_at, Instr, Li, Mov, Add, Sub, Mul, And, Or, Xor, Shl, Shr, Divu, Remu, Ltu, Eq, Jmp, Jz, Jnz, Ev, Kind, Num, Now, Ld, St, Out, Send, Arm, Stop, Next, Done, ThreadDef, PipeDef, TimerDef, Task, Program, expires_text, sizes_text, thread_text, source_text, ends_text, pipe_text, start_text, timer_text, register_text, one_text, two_text, three_text, jump_text, is_target, label_text, line_text as lines_at, each_below, task_line, task_text, print_of}
+use Rattle.program_text.specs.Print.{thread_name, instr_text}
 use Rattle.std.proofs.lemmas.List.Concat.{flat_map-append}
 use Rattle.program_text.proofs.Rendering.{behind, line_text, text_of}
 use Rattle.program_text.proofs.Spelled.{chain, expires_words, thread_words, source_words, pipe_words, start_words, timer_words, label_name, one_words, two_words, three_words, jump_words, instr_words, label_lines, instr_lines, lines_below, task_words, task_lines, thread_lines, source_lines, pipe_lines, timer_lines, program_lines}

@@ -1,23 +1,7 @@
 -- The targets of a printed program are found where they were.
-use Rattle.std.proofs.Common.{◌≡◌, ℕ, zero, suc, ◌+◌, ◌<◌, ◌≤◌, true, List, [], ◌∷◌, ◌++◌, length, take, Some, Result, Ok, Err, refl, sym, ap, ◌∙◌, arith, eq-eqb, take_all}
-use Rattle.std.specs.List.{AllByRecursion}
-use Rattle.std.proofs.Math.Numerals.{add-one}
-use Rattle.std.proofs.lemmas.List.{take_more}
-use Rattle.std.proofs.lemmas.List.Folds.{list_any_at}
-use Rattle.ink_base.specs.declared.fault.JobFault.{JobFault}
-use Rattle.ink_base.specs.Gives.{◌>>◌, each}
-use Rattle.task_isa.specs.Lookup.{task_def, instr_at, no_task_def}
-use Rattle.task_isa.specs.declared.instr.Instr.{Instr}
-use Rattle.task_isa.specs.declared.instr.Instr.TheVariants.{Jmp, Jz, Jnz, Next, Done}
-use Rattle.task_isa.specs.declared.program.Task.{Task}
-use Rattle.task_isa.specs.declared.program.Program.{Program}
-use Rattle.prog_check.specs.Accepted.{HasDistinct, IsRightInstr}
-use Rattle.task_lines.specs.declared.draft.DraftLine.{DraftLine}
-use Rattle.task_lines.specs.declared.draft.DraftTask.{DraftTask}
-use Rattle.task_lines.specs.Named.{place_of}
-use Rattle.task_lines.specs.Outside.{task_name}
-use Rattle.program_text.specs.Print.{jumps_to, is_target}
-use Rattle.task_asm.specs.Targets.{aimed, unless_lost, instr_of, code_of, task_of}
+use Rattle.program_text.proofs.Common.{◌≡◌, ℕ, zero, suc, ◌+◌, ◌<◌, ◌≤◌, true, List, [], ◌∷◌, ◌++◌, length, take, Some, Result, Ok, Err, refl, sym, ap, ◌∙◌, arith, eq-eqb, take_all, AllByRecursion, add-one, take_more, list_any_at, JobFault, ◌>>◌, task_def, instr_at, no_task_def, Instr, Jmp, Jz, Jnz, Next, Done, Task, Program, HasDistinct, IsRightInstr, DraftLine, DraftTask, place_of, task_name, jumps_to, is_target, aimed, unless_lost, instr_of, code_of}
+use Rattle.ink_base.specs.Gives.{each}
+use Rattle.task_asm.specs.Targets.{task_of}
 use Rattle.program_text.proofs.Spelled.{task_lines}
 use Rattle.program_text.proofs.NamesAgain.{place_again}
 use Rattle.program_text.proofs.InstrsAgain.{draft_of}

@@ -1,17 +1,6 @@
 -- The lines of a printed task are read as the task, with its labels.
-use Rattle.std.proofs.Common.{◌≡◌, ℕ, zero, suc, ◌+◌, ◌-◌, ◌<◌, ◌≤◌, Bool, true, false, cond, List, [], ◌∷◌, ◌++◌, length, drop, Some, None, Ok, codes, refl, ap, ◌∙◌, arith, lt-ltb}
-use Rattle.task_isa.specs.Code.{IsInstr}
-use Rattle.task_isa.specs.Lookup.{no_thread_def, instr_at}
-use Rattle.task_isa.specs.declared.program.Task.{Task}
-use Rattle.task_isa.specs.declared.program.Program.{Program}
-use Rattle.prog_check.specs.Accepted.{IsRightInstr}
-use Rattle.task_lines.specs.declared.draft.DraftLine.{DraftLine}
-use Rattle.task_lines.specs.declared.draft.DraftTask.{DraftTask}
-use Rattle.task_lines.specs.declared.draft.Draft.{Draft}
-use Rattle.task_lines.specs.Forms.{thread_name}
-use Rattle.task_lines.specs.Labels.{offset_of, with_label}
-use Rattle.task_lines.specs.Outside.{task_name, task_line}
-use Rattle.program_text.specs.Print.{is_target}
+use Rattle.program_text.proofs.Common.{◌≡◌, ℕ, zero, suc, ◌+◌, ◌-◌, ◌<◌, ◌≤◌, Bool, true, false, cond, List, [], ◌∷◌, ◌++◌, length, drop, Some, None, Ok, codes, refl, ap, ◌∙◌, arith, lt-ltb, IsInstr, no_thread_def, instr_at, Task, Program, IsRightInstr, DraftLine, DraftTask, Draft, thread_name, offset_of, with_label, task_name, is_target}
+use Rattle.task_lines.specs.Outside.{task_line}
 use Rattle.ink_base.specs.Checks.{end_in}
 use Rattle.task_lines.specs.Named.{fresh_of}
 use Rattle.task_lines.specs.Task.{label_line, inside_line, line_in}

@@ -1,16 +1,7 @@
 -- The canonical text of a program is read as the program.
-use Rattle.std.proofs.Common.{◌≡◌, ℕ, true, List, [], ◌∷◌, ◌++◌, Result, Ok, codes, refl, ap, ◌∙◌}
-use Rattle.std.specs.List.{list_all}
-use Rattle.ink_base.specs.Lines.{Line}
-use Rattle.ink_base.specs.declared.fault.JobFault.{JobFault}
-use Rattle.ink_base.specs.Gives.{◌>>◌}
-use Rattle.ink_text.specs.Section.{lines_in, header_in, header_end, next_header, section_in}
-use Rattle.ink_text.proofs.Lines.{at_header}
-use Rattle.task_isa.specs.declared.program.Program.{Program}
-use Rattle.task_lines.specs.declared.draft.Draft.{Draft}
-use Rattle.task_lines.specs.Task.{line_in}
-use Rattle.task_asm.specs.Section.{empty_draft, lines_of_draft, draft_end, program_in}
-use Rattle.task_asm.specs.Targets.{program_of}
+use Rattle.program_text.proofs.Common.{◌≡◌, ℕ, true, List, [], ◌∷◌, ◌++◌, Result, Ok, codes, refl, ap, ◌∙◌, list_all, Line, JobFault, ◌>>◌, lines_in, at_header, Program, Draft, line_in, empty_draft, lines_of_draft, program_of}
+use Rattle.ink_text.specs.Section.{header_in, header_end, next_header, section_in}
+use Rattle.task_asm.specs.Section.{draft_end, program_in}
 use Rattle.ink_base.specs.Checks.{end_in}
 use Rattle.task_isa.specs.declared.lines.Lines.{Lines}
 use Rattle.program_text.proofs.Rendering.{with_numbers}

@@ -1,23 +1,5 @@
 -- The lines of a printed program are lines of words, and none of them is a header.
-use Rattle.std.proofs.Common.{◌≡◌, ℕ, zero, suc, ◌<◌, ◌≤◌, ◌^◌, Bool, true, false, ◌&&◌, List, [], ◌∷◌, ◌++◌, length, get_or, drop, Option, Some, None, codes, decimal, refl, ◌∙◌, arith}
-use Rattle.std.specs.Option.{ForSome}
-use Rattle.std.specs.List.{list_all, flat_map, AllByRecursion}
-use Rattle.std.proofs.lemmas.Bool.{and_from, and_parts}
-use Rattle.std.proofs.lemmas.List.Folds.{list_all-append}
-use Rattle.ink_base.specs.Lines.{Word}
-use Rattle.ink_base.specs.declared.ids.ThreadId.{ThreadId}
-use Rattle.task_isa.specs.Code.{FitsWord, IsInstr}
-use Rattle.task_isa.specs.Lookup.{thread_def, pipe_def, timer_def, task_def, instr_at}
-use Rattle.task_isa.specs.declared.instr.Instr.{Instr}
-use Rattle.task_isa.specs.declared.instr.Instr.TheVariants.{Li, Mov, Add, Sub, Mul, And, Or, Xor, Shl, Shr, Divu, Remu, Ltu, Eq, Jmp, Jz, Jnz, Ev, Kind, Num, Now, Ld, St, Out, Send, Arm, Stop, Next, Done}
-use Rattle.task_isa.specs.declared.program.ThreadDef.{ThreadDef}
-use Rattle.task_isa.specs.declared.program.PipeDef.{PipeDef}
-use Rattle.task_isa.specs.declared.program.TimerDef.{TimerDef}
-use Rattle.task_isa.specs.declared.program.Task.{Task}
-use Rattle.task_isa.specs.declared.program.Program.{Program}
-use Rattle.prog_check.specs.Accepted.{IsRightThread, IsRightPipe, IsRightTimer, IsRightInstr}
-use Rattle.program_text.specs.Print.{is_target}
-use Rattle.program_text.specs.Typed.{IsNamed}
+use Rattle.program_text.proofs.Common.{◌≡◌, ℕ, zero, suc, ◌<◌, ◌≤◌, ◌^◌, Bool, true, false, ◌&&◌, List, [], ◌∷◌, ◌++◌, length, get_or, drop, Option, Some, None, codes, decimal, refl, ◌∙◌, arith, ForSome, list_all, flat_map, AllByRecursion, and_from, and_parts, list_all-append, Word, ThreadId, FitsWord, IsInstr, thread_def, pipe_def, timer_def, task_def, instr_at, Instr, Li, Mov, Add, Sub, Mul, And, Or, Xor, Shl, Shr, Divu, Remu, Ltu, Eq, Jmp, Jz, Jnz, Ev, Kind, Num, Now, Ld, St, Out, Send, Arm, Stop, Next, Done, ThreadDef, PipeDef, TimerDef, Task, Program, IsRightThread, IsRightPipe, IsRightTimer, IsRightInstr, is_target, IsNamed}
 use Rattle.ink_base.specs.declared.limits.TheConstants as limits
 use Rattle.program_text.proofs.Rendering.{goes_on, is_word, are_words}
 use Rattle.program_text.proofs.Spelled.{expires_words, thread_words, source_words, pipe_words, start_words, timer_words, register_word, label_name, instr_words, label_lines, instr_lines, lines_below, task_words, task_lines}

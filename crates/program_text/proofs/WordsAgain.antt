@@ -1,13 +1,5 @@
 -- The words of the canonical text are words, and are read as what they stand for.
-use Rattle.std.proofs.Common.{◌≡◌, ℕ, ◌+◌, ◌-◌, ◌*◌, ◌/◌, ◌%◌, ◌<◌, ◌≤◌, ◌^◌, Bool, true, ◌&&◌, leb, List, [], ◌∷◌, ◌++◌, length, fold, Ok, Some, decimal, refl, ap, ◌∙◌, inl, inr, arith, rules, IsTrue, lt-ltb, le-leb, leb-true, eqb-true, ne_eqb, take_at}
-use Rattle.std.specs.List.{list_all}
-use Rattle.std.proofs.lemmas.Bool.{and_from, and_parts, or_cases, cases_lt}
-use Rattle.std.proofs.lemmas.List.{length_push, get_or_push}
-use Rattle.std.proofs.lemmas.Slice.Eq.{bytes_eq-Decides}
-use Rattle.std.proofs.lemmas.Fmt.{digits_decimal, digits_value-decimal, decimal_digit, decimal_step, decimal_nonempty, length-decimal-le}
-use Rattle.ink_base.specs.Lines.{Word}
-use Rattle.task_isa.specs.Names.{is_letter, goes_on_name, is_name}
-use Rattle.task_lines.specs.Task.{label_of}
+use Rattle.program_text.proofs.Common.{◌≡◌, ℕ, ◌+◌, ◌-◌, ◌*◌, ◌/◌, ◌%◌, ◌<◌, ◌≤◌, ◌^◌, Bool, true, ◌&&◌, leb, List, [], ◌∷◌, ◌++◌, length, fold, Ok, Some, decimal, refl, ap, ◌∙◌, inl, inr, arith, rules, IsTrue, lt-ltb, le-leb, leb-true, eqb-true, ne_eqb, take_at, list_all, and_from, and_parts, or_cases, cases_lt, length_push, get_or_push, bytes_eq-Decides, digits_decimal, digits_value-decimal, decimal_digit, decimal_step, decimal_nonempty, length-decimal-le, Word, is_letter, goes_on_name, is_name, label_of}
 use Rattle.std.proofs.lemmas.Str.Parse.{IsNumeralModel, numerals_by_fold}
 use Rattle.ink_base.specs.Numbers.{is_digit, is_number, value}
 use Rattle.ink_base.specs.Checks.{word_in, fixed_in, number_in, field_in}

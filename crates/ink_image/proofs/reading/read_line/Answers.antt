@@ -1,4 +1,4 @@
-use Rattle.std.proofs.Common.{sym, ◌∙◌, arith}
+use Rattle.ink_image.proofs.Common.{sym, ◌∙◌, arith}
 use Rattle.ink_image.proofs.Sections.{onto_fails, word_read, word_fails, line_over}
 use Rattle.ink_image.proofs.reading.read_line.Goals as goal
 

@@ -1,6 +1,4 @@
-use Rattle.std.proofs.Common.{◌≡◌, drop}
-use Rattle.ink_base.specs.Checks.{words_of}
-use Rattle.ink_image.specs.Reading.{line_entries, onto, read}
+use Rattle.ink_image.proofs.Common.{◌≡◌, drop, words_of, line_entries, onto, read}
 use Rattle.ink_image.proofs.reading.read_line.Given as goal
 
 abbrev pub invariant-loop-token : goal.invariant-loop-token

@@ -1,9 +1,4 @@
-use Rattle.std.proofs.Common.{◌≡◌, ℕ, List, [], sym, ap, ◌∙◌, Vec, eqb-true}
-use Rattle.std.proofs.lemmas.List.{nil_from_length}
-use Rattle.ink_base.specs.Checks.{words_of}
-use Rattle.ink_base.specs.Lines.{Line}
-use Rattle.ink_base.specs.TokenLines.{token_lines}
-use Rattle.ink_image.specs.Reading.{line_entries, section_entries, onto, read}
+use Rattle.ink_image.proofs.Common.{◌≡◌, ℕ, List, [], sym, ap, ◌∙◌, Vec, eqb-true, nil_from_length, words_of, Line, token_lines, line_entries, section_entries, onto, read}
 use Rattle.std.specs.declared.alloc.Global.{Global}
 use Rattle.ink_image.proofs.Sections.{section_ends, section_over, line_goes_on, line_fails, answer_fails}
 use Rattle.ink_image.proofs.reading.read_words.Goals as goal

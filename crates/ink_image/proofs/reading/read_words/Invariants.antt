@@ -1,6 +1,4 @@
-use Rattle.std.proofs.Common.{◌≡◌, length}
-use Rattle.ink_base.specs.TokenLines.{token_lines}
-use Rattle.ink_image.specs.Reading.{section_entries, onto, read}
+use Rattle.ink_image.proofs.Common.{◌≡◌, length, token_lines, section_entries, onto, read}
 use Rattle.ink_image.proofs.reading.read_words.Given as goal
 
 abbrev pub invariant-lines : goal.invariant-lines

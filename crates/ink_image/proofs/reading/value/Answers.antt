@@ -1,6 +1,4 @@
-use Rattle.std.proofs.Common.{◌≡◌, ℕ, ◌+◌, ◌*◌, ◌^◌, ◌<◌, ◌≤◌, add-one, arith}
-use Rattle.std.proofs.Math.Nat.{pow-le-pow_right, pow-succ'}
-use Rattle.std.proofs.lemmas.Grind.{common_steps}
+use Rattle.ink_image.proofs.Common.{◌≡◌, ℕ, ◌+◌, ◌*◌, ◌^◌, ◌<◌, ◌≤◌, add-one, arith, pow-le-pow_right, pow-succ', common_steps}
 use Rattle.ink_image.proofs.reading.value.Goals as goal
 
 next_power : (i : ℕ) → 16 ^ (i + 1) ≡ 16 * 16 ^ i

@@ -1,5 +1,4 @@
-use Rattle.std.proofs.Common.{◌≡◌, ◌+◌, ◌^◌, ◌≤◌, take}
-use Rattle.ink_image.specs.Reading.{value}
+use Rattle.ink_image.proofs.Common.{◌≡◌, ◌+◌, ◌^◌, ◌≤◌, take, value}
 use Rattle.ink_image.proofs.reading.value.Given as goal
 
 abbrev pub invariant-loop-b : goal.invariant-loop-b

@@ -1,6 +1,4 @@
-use Rattle.std.proofs.Common.{◌≡◌, ◌++◌, take}
-use Rattle.std.specs.List.{flat_map}
-use Rattle.ink_image.specs.Text.{next_text}
+use Rattle.ink_image.proofs.Common.{◌≡◌, ◌++◌, take, flat_map, next_text}
 use Rattle.ink_image.proofs.writing.put_others.Given as goal
 
 abbrev pub invariant-loop-word : goal.invariant-loop-word

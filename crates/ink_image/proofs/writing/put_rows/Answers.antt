@@ -1,5 +1,4 @@
-use Rattle.std.proofs.Common.{sym, ◌∙◌, arith, eqb-true}
-use Rattle.std.proofs.lemmas.List.{nil_from_length}
+use Rattle.ink_image.proofs.Common.{sym, ◌∙◌, arith, eqb-true, nil_from_length}
 use Rattle.ink_image.proofs.Rows.{rows_more, rows_over}
 use Rattle.ink_image.proofs.writing.put_rows.Goals as goal
 

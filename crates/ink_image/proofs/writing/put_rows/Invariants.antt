@@ -1,6 +1,4 @@
-use Rattle.std.proofs.Common.{◌≡◌, ◌++◌, length}
-use Rattle.std.specs.List.{flat_map}
-use Rattle.ink_image.specs.Text.{line_text, rows}
+use Rattle.ink_image.proofs.Common.{◌≡◌, ◌++◌, length, flat_map, line_text, rows}
 use Rattle.ink_image.proofs.writing.put_rows.Given as goal
 
 abbrev pub invariant-rows : goal.invariant-rows

@@ -1,7 +1,4 @@
-use Rattle.std.proofs.Common.{◌≡◌, ◌<◌, List, ℕ, sym, subst, rules, arith}
-use Rattle.std.proofs.lemmas.Grind.{common_steps}
-use Rattle.ink_image.specs.Text.{image_text}
-use Rattle.ink_image.specs.Reading.{Says}
+use Rattle.ink_image.proofs.Common.{◌≡◌, ◌<◌, List, ℕ, sym, subst, rules, arith, common_steps, image_text, Says}
 use Rattle.ink_image.proofs.Again.{says_again}
 use Rattle.ink_image.proofs.writing.write_image.Goals as goal
 

@@ -1,8 +1,5 @@
 -- All slots of the queue are stored.
-use Rattle.std.proofs.Common.{◌≡◌, ℕ, ◌+◌, arith, subst}
-use Rattle.prog_check.specs.Lookup.{thread_def}
-use Rattle.ink_layout.specs.Image.{Holds}
-use Rattle.ink_layout.specs.Stages.{slots_until}
+use Rattle.ink_layout.proofs.Common.{◌≡◌, ℕ, ◌+◌, arith, subst, thread_def, Holds, slots_until}
 use Rattle.ink_layout.proofs.Images.{holds_as}
 use Rattle.ink_layout.proofs.Stages.{slots_end}
 use Rattle.ink_layout.proofs.image.empty_queue.Goals as goal

@@ -1,6 +1,5 @@
 -- The slots of the queues before.
-use Rattle.ink_layout.specs.Image.{Holds}
-use Rattle.ink_layout.specs.Stages.{slots_until}
+use Rattle.ink_layout.proofs.Common.{Holds, slots_until}
 use Rattle.ink_layout.proofs.image.empty_queues.Given as goal
 
 abbrev pub invariant-loop-t : goal.invariant-loop-t

@@ -1,7 +1,5 @@
 -- The slot holds its empty word once that is stored.
-use Rattle.std.proofs.Common.{◌+◌}
-use Rattle.fram_words.specs.Places.{Slot}
-use Rattle.ink_layout.specs.Stages.{slots_until}
+use Rattle.ink_layout.proofs.Common.{◌+◌, Slot, slots_until}
 use Rattle.ink_layout.proofs.Images.{holds_put}
 use Rattle.ink_layout.proofs.Stages.{slots_next}
 use Rattle.ink_layout.proofs.image.empty_slot.Goals as goal

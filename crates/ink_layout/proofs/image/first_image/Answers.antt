@@ -1,6 +1,5 @@
 -- As many zeros as the board has words.
-use Rattle.std.proofs.Common.{length, ap, ◌∙◌}
-use Rattle.std.proofs.lemmas.List.{length-replicate}
+use Rattle.ink_layout.proofs.Common.{length, ap, ◌∙◌, length-replicate}
 use Rattle.ink_layout.proofs.image.first_image.Goals as goal
 
 pub write_first_image-requires-clause-count : goal.write_first_image-requires-clause-count

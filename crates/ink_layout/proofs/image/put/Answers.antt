@@ -1,10 +1,6 @@
 -- The word has its address, and the memory has it once it is stored.
-use Rattle.std.proofs.Common.{ℕ, List, length, ap, ◌∙◌, sym, subst, refl, length-set}
+use Rattle.ink_layout.proofs.Common.{ℕ, List, length, ap, ◌∙◌, sym, subst, refl, length-set, performed, store, layout_address, Holds}
 use Rattle.fram_words.specs.declared.access.Access.TheVariants.{Store}
-use Rattle.fram_words.specs.Words.{performed}
-use Rattle.fram_words.specs.Places.{store}
-use Rattle.ink_layout.specs.Addresses.{layout_address}
-use Rattle.ink_layout.specs.Image.{Holds}
 use Rattle.fram_words.specs.Steps.{place_of}
 use Rattle.ink_layout.proofs.Images.{within_words, holds_store}
 use Rattle.ink_layout.proofs.image.put.Goals as goal

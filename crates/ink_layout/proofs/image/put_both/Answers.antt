@@ -1,9 +1,5 @@
 -- Both copies hold the word once both are stored.
-use Rattle.std.proofs.Common.{◌/◌, ◌%◌, ◌<◌, length, arith, ℕ}
-use Rattle.task_isa.specs.declared.program.Program.{Program}
-use Rattle.fram_words.specs.Places.{Page, store}
-use Rattle.ink_layout.specs.Shape.{IsOnBoard}
-use Rattle.ink_layout.specs.Stages.{with_blocks, put_word}
+use Rattle.ink_layout.proofs.Common.{◌/◌, ◌%◌, ◌<◌, length, arith, ℕ, Program, Page, store, IsOnBoard, with_blocks, put_word}
 use Rattle.ink_layout.proofs.Images.{holds_as}
 use Rattle.ink_layout.proofs.Stages.{blocks_put}
 use Rattle.ink_layout.proofs.image.put_both.Goals as goal

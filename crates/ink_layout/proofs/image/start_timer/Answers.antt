@@ -1,11 +1,5 @@
 -- The timer's two words are written.
-use Rattle.std.proofs.Common.{◌≡◌, ℕ, ◌+◌, ◌<◌, List, length, get_or, ap, subst, ◌∙◌}
-use Rattle.std.proofs.lemmas.List.{get_or_default}
-use Rattle.task_isa.specs.declared.program.Program.{Program}
-use Rattle.prog_check.specs.Lookup.{no_timer_def}
-use Rattle.fram_words.specs.Held.{due_word}
-use Rattle.ink_layout.specs.Image.{timed_word}
-use Rattle.ink_layout.specs.Stages.{with_blocks, put_word}
+use Rattle.ink_layout.proofs.Common.{◌≡◌, ℕ, ◌+◌, ◌<◌, List, length, get_or, ap, subst, ◌∙◌, get_or_default, Program, no_timer_def, due_word, timed_word, with_blocks, put_word}
 use Rattle.task_isa.specs.declared.program.TimerDef.{TimerDef}
 use Rattle.ink_layout.proofs.Images.{holds_as, blocks_next}
 use Rattle.ink_layout.proofs.image.start_timer.Goals as goal

@@ -1,6 +1,5 @@
 -- The words of the timers before.
-use Rattle.ink_layout.specs.Image.{Holds, timed_word}
-use Rattle.ink_layout.specs.Stages.{with_blocks}
+use Rattle.ink_layout.proofs.Common.{Holds, timed_word, with_blocks}
 use Rattle.ink_layout.proofs.image.start_timers.Given as goal
 
 abbrev pub invariant-loop-j : goal.invariant-loop-j

@@ -1,6 +1,5 @@
 -- The code of the tasks before.
-use Rattle.ink_layout.specs.Image.{Holds}
-use Rattle.ink_layout.specs.Stages.{code_until}
+use Rattle.ink_layout.proofs.Common.{Holds, code_until}
 use Rattle.ink_layout.proofs.image.store_code.Given as goal
 
 abbrev pub invariant-loop-x : goal.invariant-loop-x

@@ -1,11 +1,5 @@
 -- The code word holds the instruction's word once that is stored.
-use Rattle.std.proofs.Common.{◌≡◌, ℕ, ◌+◌, ◌<◌, List, length, get_or, ap, subst, ◌∙◌}
-use Rattle.std.proofs.lemmas.List.{get_or_default}
-use Rattle.task_isa.specs.declared.instr.Instr.{Instr}
-use Rattle.task_isa.specs.Code.{word_of_instr}
-use Rattle.prog_check.specs.Lookup.{task_def}
-use Rattle.fram_words.specs.Places.{Code}
-use Rattle.ink_layout.specs.Stages.{code_until}
+use Rattle.ink_layout.proofs.Common.{◌≡◌, ℕ, ◌+◌, ◌<◌, List, length, get_or, ap, subst, ◌∙◌, get_or_default, Instr, word_of_instr, task_def, Code, code_until}
 use Rattle.task_isa.specs.declared.instr.Instr.TheVariants.{Done}
 use Rattle.ink_layout.proofs.Images.{holds_put}
 use Rattle.ink_layout.proofs.Stages.{code_next}

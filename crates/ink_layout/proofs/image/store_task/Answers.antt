@@ -1,9 +1,5 @@
 -- All code of the task is stored.
-use Rattle.std.proofs.Common.{◌≡◌, ℕ, ◌+◌, length, arith, ap, subst}
-use Rattle.task_isa.specs.declared.instr.Instr.{Instr}
-use Rattle.prog_check.specs.Lookup.{task_def}
-use Rattle.ink_layout.specs.Image.{Holds}
-use Rattle.ink_layout.specs.Stages.{code_until}
+use Rattle.ink_layout.proofs.Common.{◌≡◌, ℕ, ◌+◌, length, arith, ap, subst, Instr, task_def, Holds, code_until}
 use Rattle.ink_layout.proofs.Images.{holds_as}
 use Rattle.ink_layout.proofs.Stages.{code_end}
 use Rattle.ink_layout.proofs.image.store_task.Goals as goal

@@ -1,6 +1,5 @@
 -- The code of the tasks before, and the instructions before.
-use Rattle.ink_layout.specs.Image.{Holds}
-use Rattle.ink_layout.specs.Stages.{code_until}
+use Rattle.ink_layout.proofs.Common.{Holds, code_until}
 use Rattle.ink_layout.proofs.image.store_task.Given as goal
 
 abbrev pub invariant-loop-n : goal.invariant-loop-n

@@ -1,7 +1,5 @@
 -- From the zeros over the code, the queues and the timers to the first image.
-use Rattle.std.proofs.Common.{ℕ, List, length, subst, sym}
-use Rattle.ink_layout.specs.Image.{Holds, timed_word}
-use Rattle.ink_layout.specs.Stages.{code_until, slots_until, with_blocks}
+use Rattle.ink_layout.proofs.Common.{ℕ, List, length, subst, sym, Holds, timed_word, code_until, slots_until, with_blocks}
 use Rattle.ink_layout.proofs.Images.{holds_as, holds_zeros, holds_first}
 use Rattle.ink_layout.proofs.Stages.{slots_none, blocks_none}
 use Rattle.ink_layout.proofs.image.write_first_image.Goals as goal

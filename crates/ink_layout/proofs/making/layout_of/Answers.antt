@@ -1,9 +1,5 @@
 -- The layout of the starts is the program's, and its words are few.
-use Rattle.std.proofs.Common.{◌≡◌, ℕ, ◌<◌, ◌^◌, List, length, subst, sym, ◌∙◌, arith}
-use Rattle.task_isa.specs.declared.program.Program.{Program}
-use Rattle.fram_words.specs.Shape.{words_before, regions}
-use Rattle.ink_layout.specs.Shape.{shape_of, words_of}
-use Rattle.ink_layout.specs.Layouts.{AreStarts, IsLayout}
+use Rattle.ink_layout.proofs.Common.{◌≡◌, ℕ, ◌<◌, ◌^◌, List, length, subst, sym, ◌∙◌, arith, Program, words_before, regions, shape_of, words_of, AreStarts, IsLayout}
 use Rattle.ink_layout.proofs.Bounds.{few_words}
 use Rattle.ink_layout.proofs.Layouts.{is_layout}
 use Rattle.ink_layout.proofs.Regions.{regions_count}

@@ -1,8 +1,5 @@
 -- What holds of every layout of a program.
-use Rattle.std.proofs.Common.{◌≡◌, subst}
-use Rattle.task_isa.specs.declared.program.Program.{Program}
-use Rattle.fram_words.specs.declared.layout.Layout.{Layout}
-use Rattle.ink_layout.specs.Layouts.{IsLayout}
+use Rattle.ink_layout.proofs.Common.{◌≡◌, subst, Program, Layout, IsLayout}
 use Rattle.ink_layout.proofs.PlacesApart.{lie_apart, lie_within, are_divided}
 use Rattle.ink_layout.proofs.making.make_layout.Goals as goal
 

@@ -1,5 +1,5 @@
 -- A thread has three regions.
-use Rattle.std.proofs.Common.{append_assoc, refl, arith}
+use Rattle.ink_layout.proofs.Common.{append_assoc, refl, arith}
 use Rattle.ink_layout.proofs.Lengths.{blocks_more}
 use Rattle.ink_layout.proofs.starts.add_blocks.Goals as goal
 

@@ -1,7 +1,5 @@
 -- The lengths of those before.
-use Rattle.std.proofs.Common.{◌≡◌, ◌++◌, map, take}
-use Rattle.fram_words.specs.Shape.{thread_regions}
-use Rattle.ink_layout.specs.Shape.{thread_shape}
+use Rattle.ink_layout.proofs.Common.{◌≡◌, ◌++◌, map, take, thread_regions, thread_shape}
 use Rattle.ink_layout.proofs.starts.add_blocks.Given as goal
 
 abbrev pub invariant-loop-thread : goal.invariant-loop-thread

@@ -1,5 +1,5 @@
 -- A queue has two regions.
-use Rattle.std.proofs.Common.{append_assoc, refl, arith}
+use Rattle.ink_layout.proofs.Common.{append_assoc, refl, arith}
 use Rattle.ink_layout.proofs.Lengths.{queues_more}
 use Rattle.ink_layout.proofs.starts.add_queues.Goals as goal
 

@@ -1,6 +1,5 @@
 -- The lengths of those before.
-use Rattle.std.proofs.Common.{◌≡◌, ◌++◌, map, take}
-use Rattle.ink_layout.specs.Shape.{pipe_words}
+use Rattle.ink_layout.proofs.Common.{◌≡◌, ◌++◌, map, take, pipe_words}
 use Rattle.ink_layout.proofs.starts.add_rings.Given as goal
 
 abbrev pub invariant-loop-pipe : goal.invariant-loop-pipe

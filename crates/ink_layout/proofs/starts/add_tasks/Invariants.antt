@@ -1,6 +1,5 @@
 -- The lengths of those before.
-use Rattle.std.proofs.Common.{◌≡◌, ◌++◌, map, take}
-use Rattle.ink_layout.specs.Shape.{task_words}
+use Rattle.ink_layout.proofs.Common.{◌≡◌, ◌++◌, map, take, task_words}
 use Rattle.ink_layout.proofs.starts.add_tasks.Given as goal
 
 abbrev pub invariant-loop-task : goal.invariant-loop-task

@@ -1,5 +1,5 @@
 -- A region ends within all words, and its start is the end of those before.
-use Rattle.std.proofs.Common.{arith}
+use Rattle.ink_layout.proofs.Common.{arith}
 use Rattle.ink_layout.proofs.Lengths.{within_all, before_more}
 use Rattle.ink_layout.proofs.starts.starts_of.Goals as goal
 

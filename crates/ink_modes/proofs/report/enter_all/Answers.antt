@@ -1,8 +1,4 @@
-use Rattle.std.proofs.Common.{sym, subst}
-use Rattle.task_isa.specs.declared.program.Program.{Program}
-use Rattle.never_cut.specs.declared.model.Model.{Model}
-use Rattle.never_cut.specs.Replaying.{model_of}
-use Rattle.never_cut.specs.Within.{HasRoom}
+use Rattle.ink_modes.proofs.Common.{sym, subst, Program, Model, model_of, HasRoom}
 use Rattle.ink_modes.proofs.Charges.{never_refused, one_entered}
 use Rattle.ink_modes.proofs.report.enter_all.Goals as goal
 

@@ -1,6 +1,4 @@
-use Rattle.std.proofs.Common.{◌≡◌, take}
-use Rattle.never_cut.specs.Journal.{after}
-use Rattle.never_cut.specs.Replaying.{model_of}
+use Rattle.ink_modes.proofs.Common.{◌≡◌, take, after, model_of}
 use Rattle.ink_modes.proofs.report.enter_all.Given as goal
 
 abbrev pub invariant-loop-entry : goal.invariant-loop-entry

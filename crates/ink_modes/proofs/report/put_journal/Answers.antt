@@ -1,7 +1,4 @@
-use Rattle.std.proofs.Common.{List, All, sym, ap, ◌∙◌, subst}
-use Rattle.ink_base.specs.declared.entry.Entry.{Entry}
-use Rattle.ink_report.specs.Conditions.{NamesPart}
-use Rattle.ink_modes.specs.Run.{entries_of}
+use Rattle.ink_modes.proofs.Common.{List, All, sym, ap, ◌∙◌, subst, Entry, NamesPart, entries_of}
 use Rattle.ink_modes.proofs.Charges.{names_of}
 use Rattle.ink_modes.proofs.report.put_journal.Goals as goal
 

@@ -1,6 +1,4 @@
-use Rattle.std.proofs.Common.{◌≡◌, ◌++◌, take}
-use Rattle.std.specs.List.{flat_map}
-use Rattle.ink_modes.specs.Run.{entries_of}
+use Rattle.ink_modes.proofs.Common.{◌≡◌, ◌++◌, take, flat_map, entries_of}
 use Rattle.ink_report.specs.Journal.{entry_lines}
 use Rattle.ink_modes.proofs.report.put_journal.Given as goal
 

@@ -1,14 +1,4 @@
-use Rattle.std.proofs.Common.{◌≡◌, ◌^◌, ◌<◌, List, ◌++◌, length, All, sym, ap, ◌∙◌, subst}
-use Rattle.std.specs.List.{flat_map}
-use Rattle.task_isa.specs.declared.program.Program.{Program}
-use Rattle.never_cut.specs.declared.model.Model.{Model}
-use Rattle.never_cut.specs.State.{open_model}
-use Rattle.never_cut.specs.Journal.{after, IsLegal}
-use Rattle.kernel_core.specs.declared.charge_record.ChargeRecord.{ChargeRecord}
-use Rattle.kernel_core.specs.declared.run_record.RunRecord.{RunRecord}
-use Rattle.ink_report.specs.Conditions.{NamesPart, NamesThread, IsReportable}
-use Rattle.ink_report.specs.Summary.{summary_of}
-use Rattle.ink_modes.specs.Run.{IsRunOf, journal_in, state_in, entries_of}
+use Rattle.ink_modes.proofs.Common.{◌≡◌, ◌^◌, ◌<◌, List, ◌++◌, length, All, sym, ap, ◌∙◌, subst, flat_map, Program, Model, open_model, after, IsLegal, ChargeRecord, RunRecord, NamesPart, NamesThread, IsReportable, summary_of, IsRunOf, journal_in, state_in, entries_of}
 use Rattle.ink_base.specs.declared.output.Output.{Output}
 use Rattle.ink_report.specs.Report.{head, entries_part}
 use Rattle.ink_report.proofs.Reportable.{open_parts, legal_reportable}

@@ -1,11 +1,4 @@
-use Rattle.std.proofs.Common.{◌<◌, List, length, take, sym, ap, ◌∙◌, subst}
-use Rattle.std.specs.List.{flat_map}
-use Rattle.ink_base.specs.declared.entry.Entry.{Entry}
-use Rattle.never_cut.specs.declared.model.Model.{Model}
-use Rattle.never_cut.specs.State.{open_model}
-use Rattle.never_cut.specs.Journal.{after, IsLegal}
-use Rattle.never_cut.specs.Within.{HasRoom}
-use Rattle.ink_modes.specs.Run.{entries_of}
+use Rattle.ink_modes.proofs.Common.{◌<◌, List, length, take, sym, ap, ◌∙◌, subst, flat_map, Entry, Model, open_model, after, IsLegal, HasRoom, entries_of}
 use Rattle.ink_modes.proofs.Charges.{after-++, one_more, charge_legal, charge_room}
 use Rattle.ink_modes.proofs.report.state_after.Goals as goal
 

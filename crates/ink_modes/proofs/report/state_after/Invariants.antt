@@ -1,9 +1,4 @@
-use Rattle.std.proofs.Common.{◌≡◌, take}
-use Rattle.std.specs.List.{flat_map}
-use Rattle.never_cut.specs.State.{open_model}
-use Rattle.never_cut.specs.Journal.{after}
-use Rattle.never_cut.specs.Replaying.{model_of}
-use Rattle.ink_modes.specs.Run.{entries_of}
+use Rattle.ink_modes.proofs.Common.{◌≡◌, take, flat_map, open_model, after, model_of, entries_of}
 use Rattle.ink_modes.proofs.report.state_after.Given as goal
 
 abbrev pub invariant-loop-charge : goal.invariant-loop-charge

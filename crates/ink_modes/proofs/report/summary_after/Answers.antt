@@ -1,10 +1,4 @@
-use Rattle.std.proofs.Common.{ℕ, ◌^◌, ◌<◌, ◌++◌, List, length, take, get_or, sym, ap, ◌∙◌, subst, arith}
-use Rattle.std.specs.List.{flat_map}
-use Rattle.std.proofs.lemmas.List.Folds.{length-flat_map-take}
-use Rattle.ink_base.specs.declared.entry.Entry.{Entry}
-use Rattle.kernel_core.specs.declared.charge_record.ChargeRecord.{ChargeRecord}
-use Rattle.ink_report.specs.Summary.{summary_of, HasRoomFor}
-use Rattle.ink_modes.specs.Run.{entries_of}
+use Rattle.ink_modes.proofs.Common.{ℕ, ◌^◌, ◌<◌, ◌++◌, List, length, take, get_or, sym, ap, ◌∙◌, subst, arith, flat_map, length-flat_map-take, Entry, ChargeRecord, summary_of, HasRoomFor, entries_of}
 use Rattle.ink_report.specs.declared.summary.Summary.{Summary}
 use Rattle.ink_report.proofs.Counted.{summary_has_room}
 use Rattle.ink_modes.proofs.Charges.{one_more}

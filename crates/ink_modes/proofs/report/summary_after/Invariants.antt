@@ -1,7 +1,4 @@
-use Rattle.std.proofs.Common.{◌≡◌, take, length}
-use Rattle.std.specs.List.{flat_map}
-use Rattle.ink_report.specs.Summary.{summary_of}
-use Rattle.ink_modes.specs.Run.{entries_of}
+use Rattle.ink_modes.proofs.Common.{◌≡◌, take, length, flat_map, summary_of, entries_of}
 use Rattle.ink_modes.proofs.report.summary_after.Given as goal
 
 abbrev pub invariant-loop-charge : goal.invariant-loop-charge

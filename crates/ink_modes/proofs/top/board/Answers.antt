@@ -1,4 +1,4 @@
-use Rattle.std.proofs.Common.{map, string_bytes, Global, refl}
+use Rattle.ink_modes.proofs.Common.{map, string_bytes, Global, refl}
 use Rattle.ink_modes.proofs.Told.{told_some, told_none, complete_told}
 use Rattle.ink_modes.proofs.top.board.Goals as goal
 

@@ -1,4 +1,4 @@
-use Rattle.std.proofs.Common.{length}
+use Rattle.ink_modes.proofs.Common.{length}
 use Rattle.ink_modes.proofs.words.+asked_from.Given as goal
 
 -- proposed from what the function passes where it calls itself

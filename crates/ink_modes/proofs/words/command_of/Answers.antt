@@ -1,7 +1,4 @@
-use Rattle.std.proofs.Common.{map, string_bytes, Global, Some, sym, ap, ◌∙◌}
-use Rattle.ink_modes.specs.declared.words.Asked.{Asked}
-use Rattle.ink_modes.specs.Words.{pieces, piece_said}
-use Rattle.ink_modes.specs.kept.Asked.{asked_from}
+use Rattle.ink_modes.proofs.Common.{map, string_bytes, Global, Some, sym, ap, ◌∙◌, Asked, pieces, piece_said, asked_from}
 use Rattle.ink_modes.proofs.Pieces.{found_of, asked_of, none_asked, same_asked}
 use Rattle.ink_modes.proofs.words.command_of.Goals as goal
 

@@ -1,6 +1,5 @@
 -- Each element that was passed is emptied, and the others are as they were.
-use Rattle.std.proofs.Common.{◌≡◌, length, map, drop, set, refl, sym, ap, ◌∙◌, arith, take_at}
-use Rattle.kernel_core.specs.kept.Recorded.{Recorded, emptied}
+use Rattle.kernel_core.proofs.Common.{◌≡◌, length, map, drop, set, refl, sym, ap, ◌∙◌, arith, take_at, Recorded, emptied}
 use Rattle.std.proofs.lemmas.List.Edits.{map_over_more}
 use Rattle.kernel_core.proofs.Mapped.{mapped_all}
 use Rattle.kernel_core.proofs.board.clear_records.Goals as goal

@@ -1,5 +1,4 @@
-use Rattle.std.proofs.Common.{◌≡◌, ◌++◌, map, take, drop}
-use Rattle.kernel_core.specs.kept.Recorded.{emptied}
+use Rattle.kernel_core.proofs.Common.{◌≡◌, ◌++◌, map, take, drop, emptied}
 use Rattle.kernel_core.proofs.board.clear_records.Given as goal
 
 abbrev pub invariant-loop-charge : goal.invariant-loop-charge

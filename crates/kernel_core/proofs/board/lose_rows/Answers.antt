@@ -1,7 +1,4 @@
-use Rattle.std.proofs.Common.{◌≡◌, ◌+◌, ◌++◌, List, length, map, take, drop, get_or, set, refl, sym, ap, ◌∙◌, subst, arith, take_at}
-use Rattle.push_core.specs.declared.row.Row.{Row}
-use Rattle.push_core.specs.declared.pusher.Pusher.{Pusher}
-use Rattle.kernel_core.specs.kept.Cores.{rebooted, no_pusher}
+use Rattle.kernel_core.proofs.Common.{◌≡◌, ◌+◌, ◌++◌, List, length, map, take, drop, get_or, set, refl, sym, ap, ◌∙◌, subst, arith, take_at, Row, Pusher, rebooted, no_pusher}
 use Rattle.kernel_core.proofs.Mapped.{mapped_more, mapped_all}
 use Rattle.kernel_core.proofs.board.lose_rows.Goals as goal
 

@@ -1,5 +1,4 @@
-use Rattle.std.proofs.Common.{◌≡◌, ◌++◌, map, take, drop}
-use Rattle.kernel_core.specs.kept.Cores.{rebooted}
+use Rattle.kernel_core.proofs.Common.{◌≡◌, ◌++◌, map, take, drop, rebooted}
 use Rattle.kernel_core.proofs.board.lose_rows.Given as goal
 
 abbrev pub invariant-loop-pusher : goal.invariant-loop-pusher

@@ -1,9 +1,4 @@
-use Rattle.std.proofs.Common.{◌≡◌, ◌+◌, ◌≤◌, get_or, refl, sym, ap, ◌∙◌, subst, arith}
-use Rattle.std.proofs.lemmas.List.Sums.{sum_by_more, sum_by_more_le}
-use Rattle.job_parts.specs.declared.charge.Charge.{Charge}
-use Rattle.job_parts.specs.declared.item.Item.{Item}
-use Rattle.job_parts.specs.Job.{item_turns}
-use Rattle.kernel_core.specs.Core.{no_item}
+use Rattle.kernel_core.proofs.Common.{◌≡◌, ◌+◌, ◌≤◌, get_or, refl, sym, ap, ◌∙◌, subst, arith, sum_by_more, sum_by_more_le, Charge, Item, item_turns, no_item}
 use Rattle.kernel_core.proofs.CoreJobs.{turns_small, charge_is, taken_all}
 use Rattle.kernel_core.proofs.board.turns_in.Goals as goal
 

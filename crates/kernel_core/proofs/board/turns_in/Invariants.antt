@@ -1,5 +1,4 @@
-use Rattle.std.proofs.Common.{◌≡◌, take}
-use Rattle.job_parts.specs.Job.{item_turns}
+use Rattle.kernel_core.proofs.Common.{◌≡◌, take, item_turns}
 use Rattle.kernel_core.proofs.board.turns_in.Given as goal
 
 abbrev pub invariant-loop-item : goal.invariant-loop-item

@@ -1,6 +1,4 @@
-use Rattle.std.proofs.Common.{◌≡◌, ◌+◌, [], ◌∷◌, ◌++◌, length, map, length-append, refl, sym, ap, ◌∙◌, arith, rules, append_assoc, append-nil}
-use Rattle.std.proofs.lemmas.List.{map-append, nil_from_length}
-use Rattle.kernel_core.specs.kept.Cores.{charge_in}
+use Rattle.kernel_core.proofs.Common.{◌≡◌, ◌+◌, [], ◌∷◌, ◌++◌, length, map, length-append, refl, sym, ap, ◌∙◌, arith, rules, append_assoc, append-nil, map-append, nil_from_length, charge_in}
 use Rattle.kernel_core.proofs.run_record.finished.Goals as goal
 
 pub loop-recording-init : goal.loop-recording-init

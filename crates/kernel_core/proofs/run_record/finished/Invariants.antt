@@ -1,5 +1,4 @@
-use Rattle.std.proofs.Common.{◌≡◌, ◌++◌, length, map, vec_len, vec_capacity}
-use Rattle.kernel_core.specs.kept.Cores.{charge_in}
+use Rattle.kernel_core.proofs.Common.{◌≡◌, ◌++◌, length, map, vec_len, vec_capacity, charge_in}
 use Rattle.kernel_core.proofs.run_record.finished.Given as goal
 
 abbrev pub invariant-loop-recording : goal.invariant-loop-recording

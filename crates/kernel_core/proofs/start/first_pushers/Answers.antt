@@ -1,7 +1,4 @@
-use Rattle.std.proofs.Common.{◌≡◌, ◌+◌, sym, ap, ◌∙◌, subst, arith, length, List}
-use Rattle.task_isa.specs.declared.program.Program.{Program}
-use Rattle.push_core.specs.declared.pusher.Pusher.{Pusher}
-use Rattle.kernel_core.specs.kept.Starts.{first_pusher, AreFirstPushers}
+use Rattle.kernel_core.proofs.Common.{◌≡◌, ◌+◌, sym, ap, ◌∙◌, subst, arith, length, List, Program, Pusher, first_pusher, AreFirstPushers}
 use Rattle.kernel_core.proofs.Starts.{no_pushers, one_pusher_more}
 use Rattle.kernel_core.proofs.start.first_pushers.Goals as goal
 

@@ -1,4 +1,4 @@
-use Rattle.kernel_core.specs.kept.Starts.{AreFirstPushers}
+use Rattle.kernel_core.proofs.Common.{AreFirstPushers}
 use Rattle.kernel_core.proofs.start.first_pushers.Given as goal
 
 abbrev pub invariant-loop-i : goal.invariant-loop-i

@@ -1,6 +1,4 @@
-use Rattle.std.proofs.Common.{◌≡◌, ◌+◌, sym, ap, subst, arith, length, List}
-use Rattle.kernel_core.specs.kept.Recorded.{Recorded}
-use Rattle.kernel_core.specs.kept.Starts.{AreFirstRecords}
+use Rattle.kernel_core.proofs.Common.{◌≡◌, ◌+◌, sym, ap, subst, arith, length, List, Recorded, AreFirstRecords}
 use Rattle.kernel_core.proofs.Starts.{no_records, one_record_more}
 use Rattle.kernel_core.proofs.start.first_records.Goals as goal
 

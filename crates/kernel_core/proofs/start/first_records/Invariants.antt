@@ -1,4 +1,4 @@
-use Rattle.kernel_core.specs.kept.Starts.{AreFirstRecords}
+use Rattle.kernel_core.proofs.Common.{AreFirstRecords}
 use Rattle.kernel_core.proofs.start.first_records.Given as goal
 
 abbrev pub invariant-loop-k : goal.invariant-loop-k

@@ -1,9 +1,4 @@
-use Rattle.std.proofs.Common.{List, [], get_or, sym, ap, ◌∙◌, subst}
-use Rattle.task_isa.specs.declared.program.Program.{Program}
-use Rattle.std.proofs.lemmas.List.{get_or_default}
-use Rattle.ink_base.specs.declared.ids.ThreadId.{ThreadId}
-use Rattle.push_core.specs.Table.{IsPort}
-use Rattle.kernel_core.specs.Core.{job_of}
+use Rattle.kernel_core.proofs.Common.{List, [], get_or, sym, ap, ◌∙◌, subst, Program, get_or_default, ThreadId, IsPort, job_of}
 use Rattle.prog_check.specs.Lookup.{no_thread}
 use Rattle.kernel_core.proofs.Starts.{port_is, right_port}
 use Rattle.kernel_core.proofs.start.port_at.Goals as goal

@@ -1,8 +1,4 @@
-use Rattle.std.proofs.Common.{ℕ, List, length, sym, ◌∙◌, subst}
-use Rattle.ink_layout.specs.Image.{IsFirstImage}
-use Rattle.job_parts.specs.Job.{JobParts, IsJob}
-use Rattle.kernel_core.specs.Board.{first_board}
-use Rattle.kernel_core.specs.Core.{setup_of}
+use Rattle.kernel_core.proofs.Common.{ℕ, List, length, sym, ◌∙◌, subst, IsFirstImage, JobParts, IsJob, first_board, setup_of}
 use Rattle.kernel_core.proofs.start.prepare.Goals as goal
 
 pub returns-clause-job : goal.returns-clause-job

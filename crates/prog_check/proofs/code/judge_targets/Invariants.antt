@@ -1,6 +1,4 @@
-use Rattle.std.proofs.Common.{◌≡◌, length, None}
-use Rattle.prog_check.specs.Lookup.{task_def}
-use Rattle.prog_check.specs.Faults.{first_below, target_fault}
+use Rattle.prog_check.proofs.Common.{◌≡◌, length, None, task_def, first_below, target_fault}
 use Rattle.prog_check.proofs.code.judge_targets.Given as goal
 
 abbrev pub invariant-loop-n : goal.invariant-loop-n

@@ -1,5 +1,4 @@
-use Rattle.std.proofs.Common.{◌≡◌, length, None}
-use Rattle.prog_check.specs.Faults.{first_below, timer_fault}
+use Rattle.prog_check.proofs.Common.{◌≡◌, length, None, first_below, timer_fault}
 use Rattle.prog_check.proofs.devices.judge_timers.Given as goal
 
 abbrev pub invariant-loop-j : goal.invariant-loop-j

@@ -1,5 +1,5 @@
 -- A fault is answered of no program that is accepted.
-use Rattle.std.proofs.Common.{refl}
+use Rattle.prog_check.proofs.Common.{refl}
 use Rattle.prog_check.proofs.Complete.{no_fault}
 use Rattle.prog_check.proofs.judge.check.Goals as goal
 

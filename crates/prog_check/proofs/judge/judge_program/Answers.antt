@@ -1,5 +1,5 @@
 -- Neither step found a fault, so the program is accepted.
-use Rattle.std.proofs.Common.{◌≡◌, refl, None}
+use Rattle.prog_check.proofs.Common.{◌≡◌, refl, None}
 use Rattle.prog_check.specs.Faults.{first_fault}
 use Rattle.prog_check.proofs.Sound.{accepted_of}
 use Rattle.prog_check.proofs.judge.judge_program.Goals as goal

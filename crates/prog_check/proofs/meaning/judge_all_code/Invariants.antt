@@ -1,5 +1,4 @@
-use Rattle.std.proofs.Common.{◌≡◌, length, None}
-use Rattle.prog_check.specs.Faults.{first_below, code_fault}
+use Rattle.prog_check.proofs.Common.{◌≡◌, length, None, first_below, code_fault}
 use Rattle.prog_check.proofs.meaning.judge_all_code.Given as goal
 
 abbrev pub invariant-loop-x : goal.invariant-loop-x

@@ -1,5 +1,4 @@
-use Rattle.std.proofs.Common.{◌≡◌, length, None}
-use Rattle.prog_check.specs.Faults.{first_below, served_fault}
+use Rattle.prog_check.proofs.Common.{◌≡◌, length, None, first_below, served_fault}
 use Rattle.prog_check.proofs.meaning.judge_all_served.Given as goal
 
 abbrev pub invariant-loop-t : goal.invariant-loop-t

@@ -1,5 +1,4 @@
-use Rattle.std.proofs.Common.{◌≡◌, ◌+◌, length, take, sum_by}
-use Rattle.task_isa.specs.declared.program.Task.{Task}
+use Rattle.prog_check.proofs.Common.{◌≡◌, ◌+◌, length, take, sum_by, Task}
 use Rattle.ink_base.specs.declared.limits.TheConstants as limits
 use Rattle.prog_check.proofs.tasks.is_code_within.Given as goal
 

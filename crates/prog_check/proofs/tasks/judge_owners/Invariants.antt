@@ -1,6 +1,4 @@
-use Rattle.std.proofs.Common.{◌≡◌, ℕ, ◌<◌, length, None}
-use Rattle.prog_check.specs.Lookup.{task_def, instr_at}
-use Rattle.prog_check.specs.Faults.{first_below, instr_fault}
+use Rattle.prog_check.proofs.Common.{◌≡◌, ℕ, ◌<◌, length, None, task_def, instr_at, first_below, instr_fault}
 use Rattle.task_isa.specs.Code.{IsInstr}
 use Rattle.prog_check.proofs.tasks.judge_owners.Given as goal
 

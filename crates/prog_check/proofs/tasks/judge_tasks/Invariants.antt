@@ -1,7 +1,4 @@
-use Rattle.std.proofs.Common.{◌≡◌, ℕ, ◌<◌, length, None}
-use Rattle.prog_check.specs.Lookup.{task_def}
-use Rattle.prog_check.specs.Accepted.{HasFittingCode}
-use Rattle.prog_check.specs.Faults.{first_below, task_fault}
+use Rattle.prog_check.proofs.Common.{◌≡◌, ℕ, ◌<◌, length, None, task_def, HasFittingCode, first_below, task_fault}
 use Rattle.prog_check.proofs.tasks.judge_tasks.Given as goal
 
 abbrev pub invariant-loop-x : goal.invariant-loop-x

@@ -1,5 +1,4 @@
-use Rattle.std.proofs.Common.{◌≡◌, length, None}
-use Rattle.prog_check.specs.Faults.{first_below, source_fault}
+use Rattle.prog_check.proofs.Common.{◌≡◌, length, None, first_below, source_fault}
 use Rattle.prog_check.proofs.threads.judge_sources.Given as goal
 
 abbrev pub invariant-loop-i : goal.invariant-loop-i

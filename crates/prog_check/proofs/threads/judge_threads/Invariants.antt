@@ -1,6 +1,4 @@
-use Rattle.std.proofs.Common.{◌≡◌, length, None, ℕ, ◌<◌, ◌≤◌}
-use Rattle.prog_check.specs.Lookup.{thread_def}
-use Rattle.prog_check.specs.Faults.{first_below, thread_fault}
+use Rattle.prog_check.proofs.Common.{◌≡◌, length, None, ℕ, ◌<◌, ◌≤◌, thread_def, first_below, thread_fault}
 use Rattle.ink_base.specs.declared.limits.TheConstants as limits
 use Rattle.prog_check.proofs.threads.judge_threads.Given as goal
 

@@ -1,4 +1,4 @@
-use Rattle.std.proofs.Common.{◌≡◌, take}
+use Rattle.prog_check.proofs.Common.{◌≡◌, take}
 use Rattle.prog_check.proofs.try_copy.copies.Given as goal
 
 abbrev pub invariant-loop-item : goal.invariant-loop-item

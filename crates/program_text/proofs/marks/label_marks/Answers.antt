@@ -1,6 +1,4 @@
-use Rattle.std.proofs.Common.{◌≡◌, false, length}
-use Rattle.std.proofs.Math.ListN.{replicate}
-use Rattle.std.proofs.lemmas.List.{take_more}
+use Rattle.program_text.proofs.Common.{◌≡◌, false, length, replicate, take_more}
 use Rattle.program_text.proofs.LabelMarks.{AreMarks-none, AreMarks-more}
 use Rattle.program_text.proofs.marks.label_marks.Goals as goal
 

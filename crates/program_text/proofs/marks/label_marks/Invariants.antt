@@ -1,5 +1,4 @@
-use Rattle.std.proofs.Common.{length, take}
-use Rattle.program_text.specs.Marks.{AreMarks}
+use Rattle.program_text.proofs.Common.{length, take, AreMarks}
 use Rattle.program_text.proofs.marks.label_marks.Given as goal
 
 abbrev pub invariant-loop-instr : goal.invariant-loop-instr

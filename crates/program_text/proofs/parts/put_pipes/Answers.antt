@@ -1,8 +1,4 @@
-use Rattle.std.proofs.Common.{◌≡◌, get_or, ◌<◌, length, rules}
-use Rattle.std.proofs.lemmas.List.{get_or_read}
-use Rattle.task_isa.specs.Lookup.{no_pipe_def}
-use Rattle.task_isa.specs.declared.program.PipeDef.{PipeDef}
-use Rattle.program_text.specs.Print.{pipe_text}
+use Rattle.program_text.proofs.Common.{◌≡◌, get_or, ◌<◌, length, rules, get_or_read, no_pipe_def, PipeDef, pipe_text}
 use Rattle.program_text.proofs.Printing.{parts_more, named_more}
 use Rattle.program_text.proofs.parts.put_pipes.Goals as goal
 

@@ -1,5 +1,4 @@
-use Rattle.std.proofs.Common.{◌≡◌, ◌++◌, take}
-use Rattle.program_text.specs.Print.{source_text}
+use Rattle.program_text.proofs.Common.{◌≡◌, ◌++◌, take, source_text}
 use Rattle.std.specs.Prelude.{flat_map}
 use Rattle.program_text.proofs.parts.put_sources.Given as goal
 

@@ -1,8 +1,4 @@
-use Rattle.std.proofs.Common.{◌≡◌, get_or, ◌<◌, length, rules}
-use Rattle.std.proofs.lemmas.List.{get_or_read}
-use Rattle.task_isa.specs.Lookup.{no_thread_def}
-use Rattle.task_isa.specs.declared.program.ThreadDef.{ThreadDef}
-use Rattle.program_text.specs.Print.{thread_text}
+use Rattle.program_text.proofs.Common.{◌≡◌, get_or, ◌<◌, length, rules, get_or_read, no_thread_def, ThreadDef, thread_text}
 use Rattle.program_text.proofs.Printing.{parts_more, named_more}
 use Rattle.program_text.proofs.parts.put_threads.Goals as goal
 

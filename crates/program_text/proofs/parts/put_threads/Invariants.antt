@@ -1,8 +1,4 @@
-use Rattle.std.proofs.Common.{◌≡◌, ◌++◌, take}
-use Rattle.std.specs.List.{All}
-use Rattle.task_isa.specs.declared.program.ThreadDef.{ThreadDef}
-use Rattle.program_text.specs.Print.{thread_text}
-use Rattle.program_text.specs.Typed.{IsNamed}
+use Rattle.program_text.proofs.Common.{◌≡◌, ◌++◌, take, All, ThreadDef, thread_text, IsNamed}
 use Rattle.std.specs.Prelude.{flat_map}
 use Rattle.program_text.proofs.parts.put_threads.Given as goal
 

@@ -1,7 +1,4 @@
-use Rattle.std.proofs.Common.{◌≡◌, sym, subst, rules}
-use Rattle.prog_check.specs.Accepted.{IsAccepted}
-use Rattle.program_text.specs.Print.{print_of}
-use Rattle.program_text.specs.Reread.{ReadsBack}
+use Rattle.program_text.proofs.Common.{◌≡◌, sym, subst, rules, IsAccepted, print_of, ReadsBack}
 use Rattle.program_text.proofs.ReadBack.{reads_back}
 use Rattle.program_text.proofs.program.print_program.Goals as goal
 

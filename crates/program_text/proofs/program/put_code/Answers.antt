@@ -1,8 +1,4 @@
-use Rattle.std.proofs.Common.{List, ℕ, ◌++◌, ◌<◌, length, sym, ap, ◌∙◌, append_assoc, rules}
-use Rattle.std.proofs.lemmas.List.Elements.{All-more}
-use Rattle.task_isa.specs.Code.{IsInstr}
-use Rattle.task_isa.specs.declared.instr.Instr.TheVariants.{Done}
-use Rattle.program_text.specs.Print.{each_below, line_text}
+use Rattle.program_text.proofs.Common.{List, ℕ, ◌++◌, ◌<◌, length, sym, ap, ◌∙◌, append_assoc, rules, All-more, IsInstr, Done, each_below, line_text}
 use Rattle.program_text.proofs.Printing.{each_below_more}
 use Rattle.program_text.proofs.program.put_code.Goals as goal
 

@@ -1,7 +1,4 @@
-use Rattle.std.proofs.Common.{◌≡◌, ◌++◌, take}
-use Rattle.std.specs.List.{All}
-use Rattle.task_isa.specs.Code.{IsInstr}
-use Rattle.program_text.specs.Print.{each_below, line_text}
+use Rattle.program_text.proofs.Common.{◌≡◌, ◌++◌, take, All, IsInstr, each_below, line_text}
 use Rattle.program_text.proofs.program.put_code.Given as goal
 
 abbrev pub invariant-loop-offset : goal.invariant-loop-offset

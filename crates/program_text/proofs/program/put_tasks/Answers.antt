@@ -1,9 +1,4 @@
-use Rattle.std.proofs.Common.{◌≡◌, get_or, ◌<◌, length, subst, rules}
-use Rattle.std.proofs.lemmas.List.{get_or_read}
-use Rattle.std.proofs.lemmas.List.Elements.{All-more}
-use Rattle.task_isa.specs.Lookup.{no_task_def}
-use Rattle.program_text.specs.Print.{task_text}
-use Rattle.program_text.specs.Typed.{IsTypedTask}
+use Rattle.program_text.proofs.Common.{◌≡◌, get_or, ◌<◌, length, subst, rules, get_or_read, All-more, no_task_def, task_text, IsTypedTask}
 use Rattle.program_text.proofs.Printing.{parts_more}
 use Rattle.program_text.proofs.program.put_tasks.Goals as goal
 

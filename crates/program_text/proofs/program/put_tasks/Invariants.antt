@@ -1,7 +1,4 @@
-use Rattle.std.proofs.Common.{◌≡◌, ◌++◌, take}
-use Rattle.std.specs.List.{All}
-use Rattle.program_text.specs.Print.{task_text}
-use Rattle.program_text.specs.Typed.{IsTypedTask}
+use Rattle.program_text.proofs.Common.{◌≡◌, ◌++◌, take, All, task_text, IsTypedTask}
 use Rattle.std.specs.Prelude.{flat_map}
 use Rattle.program_text.proofs.program.put_tasks.Given as goal
 

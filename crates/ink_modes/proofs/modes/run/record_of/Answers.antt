@@ -1,7 +1,4 @@
-use Rattle.std.proofs.Common.{◌≡◌, ap, ◌∙◌}
-use Rattle.kernel_core.specs.Board.{Board, moved_by}
-use Rattle.kernel_core.specs.Core.{setup_of}
-use Rattle.ink_modes.specs.Run.{board_run}
+use Rattle.ink_modes.proofs.Common.{◌≡◌, ap, ◌∙◌, Board, moved_by, setup_of, board_run}
 use Rattle.kernel_core.specs.Listed.{moves}
 use Rattle.ink_modes.proofs.Runs.{run_of}
 use Rattle.ink_modes.proofs.modes.run.record_of.Goals as goal

@@ -1,8 +1,4 @@
-use Rattle.std.proofs.Common.{map, sym, ◌∙◌, subst}
-use Rattle.kernel_core.specs.declared.kernel.Kernel.{Kernel}
-use Rattle.kernel_core.specs.First.{IsSetup}
-use Rattle.kernel_core.specs.Core.{setup_of, job_of}
-use Rattle.kernel_core.specs.kept.Cores.{IsCore, row_in, charge_in}
+use Rattle.kernel_core.proofs.Common.{map, sym, ◌∙◌, subst, Kernel, IsSetup, setup_of, job_of, IsCore, row_in, charge_in}
 use Rattle.kernel_core.proofs.JobMoves.{job_setup}
 use Rattle.kernel_core.proofs.Starts.{first_core, first_fields}
 use Rattle.kernel_core.proofs.board.Core.begin.Goals as goal

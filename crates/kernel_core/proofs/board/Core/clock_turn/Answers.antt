@@ -1,9 +1,4 @@
-use Rattle.std.proofs.Common.{◌+◌, ◌<◌, ◌≤◌, sym, ap, ◌∙◌, subst}
-use Rattle.kernel_core.specs.Record.{with_tick}
-use Rattle.kernel_core.specs.kept.Recorded.{Recorded, KeepsRoom}
-use Rattle.kernel_core.specs.Board.{clock_turn}
-use Rattle.kernel_core.specs.Made.{clock_made}
-use Rattle.kernel_core.specs.Core.{View, setup_of}
+use Rattle.kernel_core.proofs.Common.{◌+◌, ◌<◌, ◌≤◌, sym, ap, ◌∙◌, subst, with_tick, Recorded, KeepsRoom, clock_turn, clock_made, View, setup_of}
 use Rattle.kernel_core.proofs.CoreSteps.{clock_within, clock_fits, clock_turn_is, clock_made_is, clock_turn_core, at_hand, has_spare, tick_counts}
 use Rattle.kernel_core.proofs.board.Core.clock_turn.Goals as goal
 

@@ -1,7 +1,5 @@
 -- The fields are those of a core before its first charge.
-use Rattle.std.proofs.Common.{length, ap, ◌∙◌}
-use Rattle.kernel_core.specs.Board.{first_board}
-use Rattle.kernel_core.specs.Core.{View, setup_of}
+use Rattle.kernel_core.proofs.Common.{length, ap, ◌∙◌, first_board, View, setup_of}
 use Rattle.kernel_core.proofs.Again.{core_again, board_again}
 use Rattle.kernel_core.proofs.board.Core.forget_run.Goals as goal
 

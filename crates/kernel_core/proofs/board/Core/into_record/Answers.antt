@@ -1,5 +1,4 @@
-use Rattle.std.proofs.Common.{sym, ◌∙◌, subst}
-use Rattle.kernel_core.specs.RunRecords.{RecordStands}
+use Rattle.kernel_core.proofs.Common.{sym, ◌∙◌, subst, RecordStands}
 use Rattle.kernel_core.specs.declared.run_record.RunRecord.{RunRecord}
 use Rattle.kernel_core.proofs.RunRecords.{record_stands}
 use Rattle.kernel_core.proofs.board.Core.into_record.Goals as goal

@@ -1,9 +1,4 @@
-use Rattle.std.proofs.Common.{◌≡◌, ℕ, ◌<◌, List, length, sym, ap, ◌∙◌, subst, arith}
-use Rattle.push_core.specs.Table.{IsFew, IsRowFor, want_of}
-use Rattle.source_laws.specs.Rows.{port_of}
-use Rattle.never_cut.specs.Entries.{readings_of}
-use Rattle.kernel_core.specs.Board.{sides, row_of}
-use Rattle.kernel_core.specs.Core.{View, setup_of}
+use Rattle.kernel_core.proofs.Common.{◌≡◌, ℕ, ◌<◌, List, length, sym, ap, ◌∙◌, subst, arith, IsFew, IsRowFor, want_of, port_of, readings_of, sides, row_of, View, setup_of}
 use Rattle.kernel_core.proofs.CoreSources.{few, fits, wanted_is}
 use Rattle.kernel_core.proofs.board.Core.next_access.Goals as goal
 

@@ -1,9 +1,4 @@
-use Rattle.std.proofs.Common.{◌<◌, ◌≤◌, length, refl, sym, ap, ◌∙◌, subst, arith}
-use Rattle.std.specs.List.{flat_map}
-use Rattle.job_parts.specs.Job.{JobParts}
-use Rattle.kernel_core.specs.Board.{moved_by}
-use Rattle.kernel_core.specs.Listed.{moves_of}
-use Rattle.kernel_core.specs.Core.{setup_of, charge_def}
+use Rattle.kernel_core.proofs.Common.{◌<◌, ◌≤◌, length, refl, sym, ap, ◌∙◌, subst, arith, flat_map, JobParts, moved_by, moves_of, setup_of, charge_def}
 use Rattle.kernel_core.proofs.CoreJobs.{taken}
 use Rattle.kernel_core.proofs.CoreRuns.{charges_more}
 use Rattle.kernel_core.proofs.board.Core.run.Goals as goal

@@ -1,8 +1,4 @@
-use Rattle.std.proofs.Common.{◌≡◌, take}
-use Rattle.std.specs.List.{flat_map}
-use Rattle.kernel_core.specs.Board.{moved_by}
-use Rattle.kernel_core.specs.Listed.{moves_of}
-use Rattle.kernel_core.specs.Core.{setup_of}
+use Rattle.kernel_core.proofs.Common.{◌≡◌, take, flat_map, moved_by, moves_of, setup_of}
 use Rattle.kernel_core.proofs.board.Core.run.Given as goal
 
 abbrev pub invariant-loop-n : goal.invariant-loop-n

@@ -1,10 +1,4 @@
-use Rattle.std.proofs.Common.{◌≡◌, ◌+◌, ◌<◌, ◌≤◌, length, get_or, refl, sym, ap, ◌∙◌, subst, arith}
-use Rattle.std.specs.List.{flat_map}
-use Rattle.job_parts.specs.Job.{JobParts}
-use Rattle.job_parts.specs.declared.item.Item.{Item}
-use Rattle.kernel_core.specs.Board.{Board, cut, moved_by}
-use Rattle.kernel_core.specs.Listed.{turns_of}
-use Rattle.kernel_core.specs.Core.{setup_of, charge_def, turns_in, no_item}
+use Rattle.kernel_core.proofs.Common.{◌≡◌, ◌+◌, ◌<◌, ◌≤◌, length, get_or, refl, sym, ap, ◌∙◌, subst, arith, flat_map, JobParts, Item, Board, cut, moved_by, turns_of, setup_of, charge_def, turns_in, no_item}
 use Rattle.kernel_core.proofs.CoreJobs.{taken}
 use Rattle.kernel_core.proofs.CoreRuns.{items_more, item_room}
 use Rattle.kernel_core.proofs.board.Core.run_charge.Goals as goal

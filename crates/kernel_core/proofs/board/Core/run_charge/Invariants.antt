@@ -1,9 +1,4 @@
-use Rattle.std.proofs.Common.{◌≡◌, ◌≤◌, take, drop}
-use Rattle.std.specs.List.{flat_map}
-use Rattle.job_parts.specs.Job.{item_turns}
-use Rattle.kernel_core.specs.Board.{moved_by}
-use Rattle.kernel_core.specs.Listed.{turns_of}
-use Rattle.kernel_core.specs.Core.{setup_of, charge_def}
+use Rattle.kernel_core.proofs.Common.{◌≡◌, ◌≤◌, take, drop, flat_map, item_turns, moved_by, turns_of, setup_of, charge_def}
 use Rattle.kernel_core.proofs.board.Core.run_charge.Given as goal
 
 abbrev pub invariant-loop-k : goal.invariant-loop-k

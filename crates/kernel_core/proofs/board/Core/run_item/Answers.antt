@@ -1,8 +1,4 @@
-use Rattle.std.proofs.Common.{◌≡◌, replicate, refl, sym, ap, ◌∙◌, subst, arith}
-use Rattle.job_parts.specs.Job.{JobParts}
-use Rattle.kernel_core.specs.Board.{Board, Turn, turn, moved_by}
-use Rattle.kernel_core.specs.Moves.{IsActor}
-use Rattle.kernel_core.specs.Core.{setup_of}
+use Rattle.kernel_core.proofs.Common.{◌≡◌, replicate, refl, sym, ap, ◌∙◌, subst, arith, JobParts, Board, Turn, turn, moved_by, IsActor, setup_of}
 use Rattle.kernel_core.proofs.Runs.{turn_begun}
 use Rattle.kernel_core.proofs.CoreRuns.{turn_more}
 use Rattle.kernel_core.proofs.Settling.{one_at_most}

@@ -1,6 +1,4 @@
-use Rattle.std.proofs.Common.{◌≡◌, ◌+◌, ◌≤◌, replicate}
-use Rattle.kernel_core.specs.Board.{Turn, moved_by}
-use Rattle.kernel_core.specs.Core.{setup_of}
+use Rattle.kernel_core.proofs.Common.{◌≡◌, ◌+◌, ◌≤◌, replicate, Turn, moved_by, setup_of}
 use Rattle.kernel_core.proofs.board.Core.run_item.Given as goal
 
 abbrev pub invariant-loop-turn : goal.invariant-loop-turn

@@ -1,6 +1,4 @@
-use Rattle.std.proofs.Common.{subst}
-use Rattle.kernel_core.specs.Stands.{BoardStands}
-use Rattle.kernel_core.specs.Core.{View, setup_of}
+use Rattle.kernel_core.proofs.Common.{subst, BoardStands, View, setup_of}
 use Rattle.kernel_core.proofs.CoreSteps.{stands}
 use Rattle.kernel_core.proofs.board.Core.stands.Goals as goal
 

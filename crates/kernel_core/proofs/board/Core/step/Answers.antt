@@ -1,8 +1,4 @@
-use Rattle.std.proofs.Common.{ℕ, List, sym, ap, ◌∙◌, subst}
-use Rattle.kernel_core.specs.declared.made.Made.{Made}
-use Rattle.kernel_core.specs.Board.{Board}
-use Rattle.kernel_core.specs.Core.{setup_of}
-use Rattle.kernel_core.specs.Settling.{IsSameBut, src_of}
+use Rattle.kernel_core.proofs.Common.{ℕ, List, sym, ap, ◌∙◌, subst, Made, Board, setup_of, IsSameBut, src_of}
 use Rattle.kernel_core.proofs.Settling.{refusals_keep, skips_store}
 use Rattle.kernel_core.proofs.board.Core.step.Goals as goal
 

@@ -1,7 +1,5 @@
 -- The registers after a word in its range, by the machine at hand.
-use Rattle.std.proofs.Common.{◌<◌, Some, ap, ◌∙◌, sym, subst}
-use Rattle.kernel_core.specs.declared.kernel.Kernel.{Kernel}
-use Rattle.kernel_core.specs.Kernel.{wants}
+use Rattle.kernel_core.proofs.Common.{◌<◌, Some, ap, ◌∙◌, sym, subst, Kernel, wants}
 use Rattle.never_cut.specs.Ranges.{IsAnswerTo, IsPickOf}
 use Rattle.priority_sched.specs.declared.scanned.Scanned.TheVariants.{Pick}
 use Rattle.priority_sched.specs.Reached.{IsScanOf}

@@ -1,9 +1,4 @@
-use Rattle.std.proofs.Common.{length, sym, ◌∙◌, subst}
-use Rattle.ink_layout.specs.Image.{IsFirstImage}
-use Rattle.job_parts.specs.Job.{JobParts, IsJob}
-use Rattle.kernel_core.specs.Core.{setup_of}
-use Rattle.kernel_core.specs.First.{StandsFirst}
-use Rattle.kernel_core.specs.kept.Starts.{AreFirstRecords}
+use Rattle.kernel_core.proofs.Common.{length, sym, ◌∙◌, subst, IsFirstImage, JobParts, IsJob, setup_of, StandsFirst, AreFirstRecords}
 use Rattle.kernel_core.proofs.JobMoves.{job_first}
 use Rattle.kernel_core.proofs.start.Start.of.Goals as goal
 

@@ -1,0 +1,12 @@
+-- The names that several proofs of this crate cite, passed on from one place. Declares nothing.
+pub use Rattle.std.proofs.Common.{Bool, Err, List, None, Ok, Option, Result, Some, Vec, [], add-one, ap, append-nil, append_assoc, arith, codes, cond, drop, eq-eqb, eqb, eqb-true, false, fold, get_or, length, length-append, length-drop, map, min, ne_eqb, not, refl, rules, subst, suc, sym, take, true, zero, ℕ, ◌%◌, ◌&&◌, ◌*◌, ◌++◌, ◌+◌, ◌-◌, ◌/◌, ◌<◌, ◌^◌, ◌∙◌, ◌∷◌, ◌≡◌, ◌≢◌, ◌≤◌}
+pub use Rattle.std.proofs.Math.Nat.{pow-le-pow_right, pow-succ'}
+pub use Rattle.std.proofs.lemmas.Grind.{common_steps}
+pub use Rattle.std.proofs.lemmas.List.{nil_from_length}
+pub use Rattle.std.specs.List.{AllByRecursion, flat_map, list_all}
+pub use Rattle.ink_base.specs.Checks.{words_of}
+pub use Rattle.ink_base.specs.Lines.{Line, Word, lines, lines_of, numbered}
+pub use Rattle.ink_base.specs.TokenLines.{token_lines}
+pub use Rattle.task_asm.specs.Section.{is_header}
+pub use Rattle.ink_image.specs.Reading.{Reads, ReadsOn, Says, digit_value, is_digit, line_entries, onto, read, said, section_entries, section_lines, value, with_said}
+pub use Rattle.ink_image.specs.Text.{digit_byte, image_text, line_text, next_text, rows, word_text}
