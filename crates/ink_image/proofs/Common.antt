@@ -7,6 +7,6 @@ pub use Rattle.std.specs.List.{AllByRecursion, flat_map, list_all}
 pub use Rattle.ink_base.specs.Checks.{words_of}
 pub use Rattle.ink_base.specs.Lines.{Line, Word, lines, lines_of, numbered}
 pub use Rattle.ink_base.specs.TokenLines.{token_lines}
-pub use Rattle.task_asm.specs.Section.{is_header}
+pub use Rattle.ink_text.specs.Section.{is_header}
 pub use Rattle.ink_image.specs.Reading.{Reads, ReadsOn, Says, digit_value, is_digit, line_entries, onto, read, said, section_entries, section_lines, value, with_said}
 pub use Rattle.ink_image.specs.Text.{digit_byte, image_text, line_text, next_text, rows, word_text}

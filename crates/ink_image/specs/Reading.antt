@@ -3,7 +3,7 @@ use Rattle.std.specs.Prelude.{◌≡◌, ℕ, ◌+◌, ◌-◌, ◌*◌, ◌==�
 use Rattle.std.specs.List.{list_all, flat_map, take_while}
 use Rattle.ink_base.specs.Lines.{Word, Line, lines_of}
 use Rattle.ink_base.specs.Tokens.{Entry, entries}
-use Rattle.task_asm.specs.Section.{is_header}
+use Rattle.ink_text.specs.Section.{is_header}
 use Rattle.ink_image.specs.declared.reading.WordsAnswer.{WordsAnswer}
 use Rattle.ink_image.specs.declared.reading.WordsAnswer.TheVariants as answers
 

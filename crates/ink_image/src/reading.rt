@@ -4,13 +4,13 @@ ghost use Rattle.std.specs.Prelude.{◌≡◌, ◌≤◌, ◌<◌, length};
 ghost use Rattle.std.specs.List.{list_all};
 ghost use Rattle.ink_base.specs.Checks.{words_of};
 ghost use Rattle.ink_base.specs.TokenLines.{token_lines};
-ghost use Rattle.task_asm.specs.Section.{is_header};
 ghost use Rattle.ink_image.specs.declared.reading.WordsAnswer.TheVariants.{NoMemory as out_of_memory};
 ghost use Rattle.ink_image.specs.Reading.{is_digit, digit_value, is_word, value, said, line_entries, section_entries, read, Reads, ReadsOn};
 
 use ink_base::Token;
 use ink_base::checks::word;
 use ink_base::lines::split_line;
+use ink_text::is_header;
 use std::alloc::{AllocError, AllocFailed, Global};
 
 /// Why a section gives no words.
@@ -74,19 +74,6 @@ fn read_line(
         }
     }
     Ok(())
-}
-
-// Whether a line begins with a bracket.
-fn is_header(text: &[u8], words: &[Token]) -> bool
-    ensures { result ≡ is_header (words_of text.now words.now) }
-{
-    match words {
-        [] => false,
-        [first, ..] => match word(text, first) {
-            [] => false,
-            [b, ..] => *b == b'[',
-        },
-    }
 }
 
 // What a word says; none where it isn't 16 hexadecimal digits.

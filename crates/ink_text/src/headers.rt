@@ -10,7 +10,7 @@ use ink_base::checks::{end, word};
 use ink_base::lines::split_line;
 use ink_base::{Cause, JobAnswer, JobFault, LineError, Token};
 
-// Whether a line begins with a bracket.
+/// Whether a line of these words is a header: whether it begins with a bracket.
 pub fn is_header(text: &[u8], words: &[Token]) -> bool
     ensures { result ≡ is_header (words_of text.now words.now) }
 {

@@ -7,7 +7,7 @@ mod numbers;
 mod places;
 mod section;
 
-pub use headers::{missing, next_header, next_number};
+pub use headers::{is_header, missing, next_header, next_number};
 pub use names::{actor, source};
 pub use numbers::{put_count, put_name, put_number, up_to};
 pub use places::{index_of, tokens_from};
