@@ -3,7 +3,7 @@
 use crate::fixtures::{at, job_text};
 use ink_base::limits::TEXT_BYTES;
 use ink_base::{Cause, JobAnswer, JobFault};
-use power_trace::{Tails, parse_parts};
+use power_trace::{Tails, parse_parts, parse_with_lines};
 use std::alloc::Global;
 use std::test::Fail;
 
@@ -20,15 +20,25 @@ fn ends(alloc: Global, tails: Tails, charges: &[u8]) -> Result<(u32, u32, u32), 
     if text.len() > TEXT_BYTES {
         return Err(JobAnswer::NoMemory);
     }
-    let (parts, _tokens, end) = parse_parts(alloc, text.as_slice(), tails)?;
+    let (parts, _tokens, end) = parse_with_lines(alloc, text.as_slice(), tails)?;
     match parts.charge_lines.as_slice() {
         [first, .., last] => Ok((*first, *last, end)),
         _ => Ok((0, 0, end)),
     }
 }
 
+// Which token ends the charges.
+fn end(alloc: Global, tails: Tails, charges: &[u8]) -> Result<u32, JobAnswer> {
+    let text = job_text(alloc, b"S0 7", charges)?;
+    if text.len() > TEXT_BYTES {
+        return Err(JobAnswer::NoMemory);
+    }
+    let (_job, _tokens, end) = parse_parts(alloc, text.as_slice(), tails)?;
+    Ok(end)
+}
+
 fn fault(alloc: Global, tails: Tails, charges: &[u8]) -> Option<JobFault> {
-    match ends(alloc, tails, charges) {
+    match end(alloc, tails, charges) {
         Err(JobAnswer::Fault(fault)) => Some(fault),
         _ => None,
     }
@@ -43,6 +53,7 @@ fn charges_end_at_the_header_behind_them(rt: HostRuntime) -> Result<(), Fail> {
         b"charge 0 K\n\ncharge 0 T\n[image2]\n00 x\n",
     )?;
     assert_eq!(rt; ended, (16, 18, 48));
+    assert_eq!(rt; end(rt.alloc(), image(), b"charge 0 K\n[image2]\n")?, 45);
     let nothing = ends(
         rt.alloc(),
         image(),

@@ -35,6 +35,10 @@ parts_at tails text =
     power_in (length (lines text)) tails (length program.sources) s.1 >> (λ x.
     Ok (record { job = record { program = program; readings = s.0; charges = x.0.list }; charge_lines = x.0.lines }, x.1))))))
 
+-- the job alone, and the lines from that header on
+unfoldable pub whole_at : Tails → List ℕ → Result (JobParts × List Line) JobFault
+whole_at tails text = parts_at tails text >> (λ x. Ok (x.0.job, x.1))
+
 -- the job of a text behind which nothing stands
 unfoldable pub job_at : List ℕ → Result JobParts JobFault
-job_at text = parts_at no_tails text >> (λ x. Ok x.0.job)
+job_at text = whole_at no_tails text >> (λ x. Ok x.0)

@@ -4,7 +4,7 @@ ghost use Rattle.std.specs.Prelude.{◌≡◌, ◌≤◌, length, drop, IfOk};
 ghost use Rattle.ink_base.specs.Gives.{GivesJob};
 ghost use Rattle.ink_base.specs.TokenLines.{token_lines};
 ghost use Rattle.ink_base.specs.Tokens.{AreTokens};
-ghost use Rattle.power_trace.specs.Parse.{checked, parts_at, job_at};
+ghost use Rattle.power_trace.specs.Parse.{checked, parts_at, whole_at, job_at};
 
 use crate::power::read_charges;
 use crate::sensors::read_sensors;
@@ -39,7 +39,7 @@ fn accept(program: Program, lines: &Lines) -> Result<Accepted, JobAnswer>
 /// check of the program, the section `[sensors]` and the section `[power]`, at whose end the header of a section that may not follow is
 /// `BadSection`, another one before the first charge `Missing`, and a word behind it `UnknownWord`. What follows the header isn't judged.
 #[tactic(auto, unfolding(crate::specs::Parse::parts_at))]
-pub fn parse_parts(
+pub fn parse_with_lines(
     alloc: Global,
     text: &[u8],
     tails: Tails,
@@ -62,6 +62,23 @@ pub fn parse_parts(
     Ok((parts, tokens, at))
 }
 
+/// The same without the lines of the charges: the job, the tokens of the whole text, and the index of the header token that ends `[power]`, or
+/// the number of tokens. Refused as `parse_with_lines` refuses.
+#[tactic(auto, unfolding(crate::specs::Parse::whole_at))]
+pub fn parse_parts(
+    alloc: Global,
+    text: &[u8],
+    tails: Tails,
+) -> Result<(Job, Tokens, u32), JobAnswer>
+    requires { length text.now ≤ TEXT_BYTES }
+    ensures given { GivesJob (λ x. (x.0, token_lines text.now (drop x.2 x.1.list.items))) result (whole_at tails text.now) }
+    ensures tokens { IfOk result (λ x. AreTokens text.now x.1.list.items x.1.lines) }
+    ensures within { IfOk result (λ x. x.2 ≤ length x.1.list.items) }
+{
+    let (parts, tokens, at) = parse_with_lines(alloc, text, tails)?;
+    Ok((parts.job, tokens, at))
+}
+
 /// The job of a text of at most 4,194,304 bytes that ends with its section `[power]`, or the first fault of the text, as `parse_parts` gives
 /// it where nothing may follow.
 #[tactic(auto, unfolding(crate::specs::Parse::job_at))]
@@ -69,6 +86,6 @@ pub fn parse_job(alloc: Global, text: &[u8]) -> Result<Job, JobAnswer>
     requires { length text.now ≤ TEXT_BYTES }
     ensures { GivesJob (λ job. job) result (job_at text.now) }
 {
-    let (parts, _tokens, _end) = parse_parts(alloc, text, Tails::none())?;
-    Ok(parts.job)
+    let (job, _tokens, _end) = parse_parts(alloc, text, Tails::none())?;
+    Ok(job)
 }

@@ -2,7 +2,7 @@
 use Rattle.power_trace.proofs.Common.{length, sym, ap, ◌∙◌, JobParts}
 use Rattle.power_trace.proofs.Kept.{sensors_keep}
 use Rattle.power_trace.proofs.KeptCharges.{power_keep}
-use Rattle.power_trace.proofs.parse.parse_parts.Goals as goal
+use Rattle.power_trace.proofs.parse.parse_with_lines.Goals as goal
 
 pub new-requires : goal.new-requires
 new-requires c =
