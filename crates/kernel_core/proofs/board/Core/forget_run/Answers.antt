@@ -3,8 +3,11 @@ use Rattle.kernel_core.proofs.Common.{length, ap, ◌∙◌, first_board, View, 
 use Rattle.kernel_core.proofs.Again.{core_again, board_again}
 use Rattle.kernel_core.proofs.board.Core.forget_run.Goals as goal
 
-pub write_first_image-requires : goal.write_first_image-requires
-write_first_image-requires c = c.self.invariant.1.holds.size.words
+pub write_first_image-requires-clause-layout : goal.write_first_image-requires-clause-layout
+write_first_image-requires-clause-layout c = c.self.invariant.1.layout_is
+
+pub write_first_image-requires-clause-count : goal.write_first_image-requires-clause-count
+write_first_image-requires-clause-count c = c.self.invariant.1.holds.size.words
 
 pub invariant_of-self : goal.invariant_of-self
 invariant_of-self c = (
