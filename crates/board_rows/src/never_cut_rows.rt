@@ -5,6 +5,7 @@ ghost use Rattle.never_cut.specs.Within.{AreReadings};
 ghost use Rattle.prog_check.specs.Accepted.{IsAccepted};
 
 use crate::fixtures::{SUMMING, job};
+use ink_base::limits::READINGS;
 use ink_base::{Entry, NoMemory, Output, SourceId, ThreadId};
 use never_cut::{Model, ReplayFault, SourceModel, ThreadModel, replay, replay_from};
 use prog_check::Accepted;
@@ -36,7 +37,7 @@ const RELEASE: Entry = Entry::Release {
 
 // The state after these entries over these readings.
 fn after(alloc: Global, readings: &[u32], entries: &[Entry]) -> Result<Model, ReplayFault>
-    requires few_readings { length readings.now ≤ 65535 }
+    requires few_readings { length readings.now ≤ READINGS }
     requires few_entries { length entries.now < 2 ^ 32 }
 {
     let (accepted, _, _) = job(alloc, SUMMING)
@@ -70,7 +71,7 @@ fn counts_after(
     readings: &[u32],
     entries: &[Entry],
 ) -> Result<[usize; 5], ReplayFault>
-    requires few_readings { length readings.now ≤ 65535 }
+    requires few_readings { length readings.now ≤ READINGS }
     requires few_entries { length entries.now < 2 ^ 32 }
 {
     let model = after(alloc, readings, entries)?;
@@ -82,7 +83,7 @@ fn last_output(
     readings: &[u32],
     entries: &[Entry],
 ) -> Result<Option<Output>, ReplayFault>
-    requires few_readings { length readings.now ≤ 65535 }
+    requires few_readings { length readings.now ≤ READINGS }
     requires few_entries { length entries.now < 2 ^ 32 }
 {
     let model = after(alloc, readings, entries)?;
@@ -117,7 +118,7 @@ fn counts_after_first(
     readings: &[u32],
     entries: &[Entry],
 ) -> Result<[usize; 5], ReplayFault>
-    requires few_readings { length readings.now ≤ 65535 }
+    requires few_readings { length readings.now ≤ READINGS }
     requires few_entries { length entries.now < 2 ^ 32 }
 {
     let (accepted, _, _) = job(alloc, SUMMING)
@@ -133,7 +134,7 @@ fn counts_after_first(
 
 // The index of the first entry that isn't legal.
 fn illegal(alloc: Global, readings: &[u32], entries: &[Entry]) -> Option<u32>
-    requires few_readings { length readings.now ≤ 65535 }
+    requires few_readings { length readings.now ≤ READINGS }
     requires few_entries { length entries.now < 2 ^ 32 }
 {
     match after(alloc, readings, entries) {

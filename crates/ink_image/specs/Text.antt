@@ -11,6 +11,7 @@ unfoldable pub digits : (count number : ℕ) → List ℕ
 digits zero number = []
 digits (suc n) number = digits n (number / 16) ++ digit_byte (number % 16) ∷ []
 
+-- a word has 16 of them
 abbrev pub word_text : ℕ → List ℕ
 word_text word = digits 16 word
 
@@ -33,8 +34,10 @@ rows [] = []
 rows (a ∷ b ∷ c ∷ d ∷ e ∷ f ∷ g ∷ h ∷ words) = (a ∷ b ∷ c ∷ d ∷ e ∷ f ∷ g ∷ h ∷ []) ∷ rows words
 rows words = words ∷ []
 
+-- the line that begins the section
 abbrev pub header_text : List ℕ
 header_text = codes "[image2]\n"
 
+-- that line, and the words in their lines
 abbrev pub image_text : List ℕ → List ℕ
 image_text words = header_text ++ flat_map line_text (rows words)

@@ -1,6 +1,7 @@
 //! The programs of the tests, as texts of jobs, and their plans.
 
 use ink_base::JobAnswer;
+use ink_base::limits::TEXT_BYTES;
 use ink_layout::Plan;
 use power_trace::{Job, parse_job};
 use std::alloc::Global;
@@ -25,7 +26,7 @@ pub(crate) const SENDING: &[u8] =
 
 /// The job of a text, none of which is too long to be one.
 pub(crate) fn job(alloc: Global, text: &[u8]) -> Result<Job, JobAnswer> {
-    if text.len() > 4194304 {
+    if text.len() > TEXT_BYTES {
         return Err(JobAnswer::NoMemory);
     }
     parse_job(alloc, text)
