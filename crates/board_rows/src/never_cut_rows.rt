@@ -39,7 +39,7 @@ fn after(alloc: Global, readings: &[u32], entries: &[Entry]) -> Result<Model, Re
     requires few_readings { length readings.now ≤ 65535 }
     requires few_entries { length entries.now < 2 ^ 32 }
 {
-    let (accepted, _, _) = job(alloc, SUMMING)
+    let (accepted, _, _, _) = job(alloc, SUMMING)
         .or(Err(ReplayFault::NoMemory))?
         .into_parts();
     let readings = [Items::from_slice(alloc, readings).map_err(NoMemory::from)?];
@@ -120,7 +120,7 @@ fn counts_after_first(
     requires few_readings { length readings.now ≤ 65535 }
     requires few_entries { length entries.now < 2 ^ 32 }
 {
-    let (accepted, _, _) = job(alloc, SUMMING)
+    let (accepted, _, _, _) = job(alloc, SUMMING)
         .or(Err(ReplayFault::NoMemory))?
         .into_parts();
     let readings = [Items::from_slice(alloc, readings).map_err(NoMemory::from)?];
