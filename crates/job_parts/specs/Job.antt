@@ -73,9 +73,14 @@ pub record IsStart (program : Program) (readings : List (List ℕ)) (start : Sta
   pub are_listed : AreListed program listed start.model readings
   pub fresh : ¬ IsWorn program listed (words_in program start)
 
--- the state at which the run of a job begins: that of its start, else that of the first image
+-- the state at which a run of the program begins: that of the start, else that of the first image
+abbrev pub first_model : Program → Option Start → Model
+first_model program None = open_model program
+first_model program (Some start) = start.model
+
+-- the state at which the run of a job begins
 abbrev pub first_of : JobParts → Model
-first_of job = elim job.start [ Some start ↦ start.model | None ↦ open_model job.program ]
+first_of job = first_model job.program job.start
 
 -- the words with which a run of the program begins: those of the start, else those of the first image
 abbrev pub AreFirstWords : Program → Option Start → List ℕ → Type 0
