@@ -1,4 +1,4 @@
-use Rattle.ink_modes.proofs.Common.{◌≡◌, ◌^◌, ◌<◌, List, ◌++◌, length, All, sym, ap, ◌∙◌, subst, flat_map, Program, Model, open_model, after, IsLegal, ChargeRecord, RunRecord, NamesPart, NamesThread, IsReportable, summary_of, IsRunOf, journal_in, state_in, entries_of}
+use Rattle.ink_modes.proofs.Common.{◌≡◌, ◌^◌, ◌<◌, List, ◌++◌, length, All, sym, ap, ◌∙◌, subst, flat_map, Program, Model, first_of, after, IsLegal, ChargeRecord, RunRecord, NamesPart, NamesThread, IsReportable, summary_of, IsRunOf, journal_in, state_in, entries_of}
 use Rattle.ink_base.specs.declared.output.Output.{Output}
 use Rattle.ink_report.specs.Report.{head, entries_part}
 use Rattle.ink_report.proofs.Reportable.{open_parts, legal_reportable}
@@ -6,18 +6,18 @@ use Rattle.ink_modes.proofs.report.report.Goals as goal
 
 -- the state after the charges of a record
 abbrev state_of : RunRecord → List ChargeRecord → Model
-state_of r charges = after r.job.program r.job.readings (open_model r.job.program) (flat_map entries_of charges)
+state_of r charges = after r.job.program r.job.readings (first_of r.job) (flat_map entries_of charges)
 
 -- its state and its journal can be told
 tellable : (r : RunRecord) (charges : List ChargeRecord) (m : Model) → IsRunOf r.job r → charges ≡ r.charges → m ≡ state_of r charges → IsReportable r.job.program m (flat_map entries_of charges)
 tellable r charges m ran same is =
     subst (λ (z : Model × List ChargeRecord). IsReportable r.job.program z.0 (flat_map entries_of z.1)) (λ i. (sym (is ∙ ap (state_of r) same) i, sym same i))
-    (legal_reportable r.job.program r.job.readings (open_model r.job.program) (journal_in r) (open_parts r.job.program) ran.legal)
+    (legal_reportable r.job.program r.job.readings (first_of r.job) (journal_in r) (open_parts r.job.program) ran.legal)
 
 pub state_after-requires-clause-legal : goal.state_after-requires-clause-legal
 state_after-requires-clause-legal c =
     let job = c.args.run.now.job in
-    subst (λ (l : List ChargeRecord). IsLegal job.program job.readings (open_model job.program) (flat_map entries_of l)) (sym c.as_slice-charges.ensures) c.requires.ran.legal
+    subst (λ (l : List ChargeRecord). IsLegal job.program job.readings (first_of job) (flat_map entries_of l)) (sym c.as_slice-charges.ensures) c.requires.ran.legal
 
 pub state_after-requires-clause-few : goal.state_after-requires-clause-few
 state_after-requires-clause-few c = subst (λ (l : List ChargeRecord). length (flat_map entries_of l) < 2 ^ 32) (sym c.as_slice-charges.ensures) c.requires.ran.few
