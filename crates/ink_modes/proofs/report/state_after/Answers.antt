@@ -3,7 +3,7 @@ use Rattle.ink_modes.proofs.Charges.{after-++, one_more, charge_legal, charge_ro
 use Rattle.ink_modes.proofs.report.state_after.Goals as goal
 
 pub loop-charge-init : goal.loop-charge-init
-loop-charge-init c = c.in_ok-state.ensures ∙ ap open_model (c.program.ensures.same ∙ c.accepted.ensures.same)
+loop-charge-init c = c.in_ok-state.ensures
 
 pub enter_all-requires-clause-legal : goal.enter_all-requires-clause-legal
 enter_all-requires-clause-legal c =
