@@ -1,8 +1,8 @@
 -- The words with which a job's run begins stand for the state at which it begins.
-use Rattle.kernel_core.proofs.Common.{◌≡◌, inl, inr, ℕ, ◌+◌, ◌^◌, ◌<◌, ◌≤◌, List, length, Option, Some, None, refl, sym, ap, subst, arith, cases_lt, get_or_past, ThreadId, ThreadDef, Slot, Tail, Ack, Clock, Src, memory_of, Program, IsAccepted, thread_def, no_thread_def, source_thread, words_of, first_row, Queue, open_queue, published, IsStart, queue_of, source_in, thread_of, source_of, no_thread, no_source, Readings, AreShort, open_starts, first_model, AreFirstWords, Setup, shape, StandsFirst}
+use Rattle.kernel_core.proofs.Common.{◌≡◌, inl, inr, ℕ, ◌+◌, ◌^◌, ◌<◌, ◌≤◌, List, length, Option, Some, None, refl, sym, ap, subst, arith, cases_lt, get_or_past, ThreadId, ThreadDef, Slot, Tail, Ack, Clock, Src, memory_of, Program, IsAccepted, thread_def, no_thread_def, source_thread, words_of, first_row, Queue, open_queue, IsStart, queue_of, source_in, thread_of, source_of, no_thread, no_source, Readings, AreShort, open_starts, first_model, AreFirstWords, Setup, shape, StandsFirst}
 use Rattle.std.specs.Option.{ForSome}
 use Rattle.prog_check.specs.Lookup as lookup
-use Rattle.push_core.specs.Queue.{Source, open_source, StandsQueue, KeepsNumbers}
+use Rattle.push_core.specs.Queue.{Source, published, open_source, StandsQueue, KeepsNumbers}
 use Rattle.push_core.proofs.Unsettled.{unsettled_bound}
 use Rattle.source_laws.specs.Stands.{EventsKept}
 use Rattle.never_cut.specs.Sound.{sources_in}
