@@ -28,6 +28,6 @@ pub(crate) fn job(alloc: Global, text: &[u8]) -> Result<Job, JobAnswer> {
 
 /// The plan of a job's program.
 pub(crate) fn plan(alloc: Global, text: &[u8]) -> Result<Plan, JobAnswer> {
-    let (accepted, _, _) = job(alloc, text)?.into_parts();
+    let (accepted, _, _, _) = job(alloc, text)?.into_parts();
     Ok(Plan::new(alloc, accepted)?)
 }

@@ -40,7 +40,7 @@ fn after(alloc: Global, readings: &[u32], entries: &[Entry]) -> Result<Model, Re
     requires few_readings { length readings.now ≤ READINGS }
     requires few_entries { length entries.now < 2 ^ 32 }
 {
-    let (accepted, _, _) = job(alloc, SUMMING)
+    let (accepted, _, _, _) = job(alloc, SUMMING)
         .or(Err(ReplayFault::NoMemory))?
         .into_parts();
     let readings = [Items::from_slice(alloc, readings).map_err(NoMemory::from)?];
@@ -121,7 +121,7 @@ fn counts_after_first(
     requires few_readings { length readings.now ≤ READINGS }
     requires few_entries { length entries.now < 2 ^ 32 }
 {
-    let (accepted, _, _) = job(alloc, SUMMING)
+    let (accepted, _, _, _) = job(alloc, SUMMING)
         .or(Err(ReplayFault::NoMemory))?
         .into_parts();
     let readings = [Items::from_slice(alloc, readings).map_err(NoMemory::from)?];

@@ -1,5 +1,5 @@
 -- The journal of a record, charge by charge.
-use Rattle.ink_modes.proofs.Common.{◌≡◌, ℕ, zero, suc, ◌+◌, ◌^◌, ◌<◌, List, [], ◌∷◌, ◌++◌, length, take, drop, get_or, sym, ap, ◌∙◌, subst, arith, All, append_assoc, length-append, take-append-drop, drop-cons, refl, append-nil, flat_map, length-flat_map-take, Entry, Program, JobParts, IsJob, Model, after, IsLegal, open_model, HasRoom, ChargeRecord, job_setup, entries_of}
+use Rattle.ink_modes.proofs.Common.{◌≡◌, ℕ, zero, suc, ◌+◌, ◌^◌, ◌<◌, List, [], ◌∷◌, ◌++◌, length, take, drop, get_or, sym, ap, ◌∙◌, subst, arith, All, append_assoc, length-append, take-append-drop, drop-cons, refl, append-nil, flat_map, length-flat_map-take, Entry, Program, JobParts, IsJob, Model, after, IsLegal, first_of, HasRoom, ChargeRecord, job_setup, entries_of}
 use Rattle.std.proofs.lemmas.List.{take_more}
 use Rattle.std.proofs.lemmas.List.Concat.{get_or-flat_map, flat_map-append}
 use Rattle.never_cut.specs.declared.entered.Entered.{Entered}
@@ -68,15 +68,15 @@ module _ (charges : List ChargeRecord) (k : ℕ) (d : ChargeRecord) (inside : k 
       subst P (get_or-flat_map entries_of charges k j d e inside lt)
       (all (length (flat_map entries_of (take k charges)) + j) e (omega (arith, length-flat_map-take entries_of charges k d inside)))
 
-  module _ (job : JobParts) (legal : IsLegal job.program job.readings (open_model job.program) (flat_map entries_of charges)) where
+  module _ (job : JobParts) (legal : IsLegal job.program job.readings (first_of job) (flat_map entries_of charges)) where
     -- the state after the charges before it
     abbrev before : Model
-    before = after job.program job.readings (open_model job.program) (flat_map entries_of (take k charges))
+    before = after job.program job.readings (first_of job) (flat_map entries_of (take k charges))
 
     behind : IsLegal job.program job.readings before ((get_or charges k d).entries ++ flat_map entries_of (drop (suc k) charges))
     behind =
-        (legal_parts job.program job.readings (open_model job.program) (flat_map entries_of (take k charges)) _
-        (subst (IsLegal job.program job.readings (open_model job.program)) in_parts legal)).1
+        (legal_parts job.program job.readings (first_of job) (flat_map entries_of (take k charges)) _
+        (subst (IsLegal job.program job.readings (first_of job)) in_parts legal)).1
 
     -- the entries of a charge are legal there
     pub charge_legal : IsLegal job.program job.readings before (get_or charges k d).entries
@@ -87,7 +87,7 @@ module _ (charges : List ChargeRecord) (k : ℕ) (d : ChargeRecord) (inside : k 
         HasRoom job.program (after job.program job.readings before (take n (get_or charges k d).entries))
     charge_room is few n lt =
         let setup = job_setup job is in
-        let first : Model = open_model job.program in
+        let first : Model = first_of job in
         let front : List Entry = flat_map entries_of (take k charges) in
         let entries : List Entry = (get_or charges k d).entries in
         let rest : List Entry = flat_map entries_of (drop (suc k) charges) in

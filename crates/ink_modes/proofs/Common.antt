@@ -6,7 +6,7 @@ pub use Rattle.ink_base.specs.Lines.{Word}
 pub use Rattle.ink_base.specs.declared.entry.Entry.{Entry}
 pub use Rattle.ink_report.specs.Conditions.{IsReportable, NamesPart, NamesThread}
 pub use Rattle.ink_report.specs.Summary.{HasRoomFor, summary_of}
-pub use Rattle.job_parts.specs.Job.{IsJob, JobParts}
+pub use Rattle.job_parts.specs.Job.{AreFirstWords, IsJob, JobParts, first_of}
 pub use Rattle.kernel_core.proofs.JobMoves.{job_prefixes_stand, job_setup}
 pub use Rattle.kernel_core.specs.Board.{Board, journal, moved_by}
 pub use Rattle.kernel_core.specs.Core.{setup_of}
@@ -14,7 +14,6 @@ pub use Rattle.kernel_core.specs.declared.charge_record.ChargeRecord.{ChargeReco
 pub use Rattle.kernel_core.specs.declared.run_record.RunRecord.{RunRecord}
 pub use Rattle.never_cut.specs.Journal.{IsLegal, after}
 pub use Rattle.never_cut.specs.Replaying.{model_of}
-pub use Rattle.never_cut.specs.State.{open_model}
 pub use Rattle.never_cut.specs.Within.{HasRoom}
 pub use Rattle.never_cut.specs.declared.model.Model.{Model}
 pub use Rattle.task_isa.specs.declared.program.Program.{Program}

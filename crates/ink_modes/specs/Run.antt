@@ -1,9 +1,7 @@
 -- The run of a job, its record, and its text.
 use Rattle.std.specs.Prelude.{◌≡◌, ℕ, ◌^◌, ◌<◌, List, ◌++◌, length}
 use Rattle.ink_base.specs.declared.entry.Entry.{Entry}
-use Rattle.ink_layout.specs.Image.{IsFirstImage}
-use Rattle.job_parts.specs.Job.{JobParts}
-use Rattle.never_cut.specs.State.{open_model}
+use Rattle.job_parts.specs.Job.{JobParts, first_of, AreFirstWords}
 use Rattle.never_cut.specs.Journal.{IsLegal}
 use Rattle.never_cut.specs.Laws.{ReadingsInOrder, EachEventOnce, StatesByCommits, StampsByCommits}
 use Rattle.kernel_core.specs.declared.run_record.RunRecord.{RunRecord}
@@ -24,23 +22,23 @@ board_after job words n = run_first (setup_of job) words job.charges n
 abbrev pub board_run : JobParts → List ℕ → Board
 board_run job words = run (setup_of job) words job.charges
 
--- The board ran the job from the words of its first image on, and the record is what it left behind. After each access and each cut the
+-- The board ran the job from the words of its start on, or else from those of the first image, and the record is what it left behind. After each access and each cut the
 -- words stood for the never-cut kernel after the journal so far, which was legal and a beginning of the record's. The record's journal is
 -- legal, and keeps the laws of legal journals. In each charge a commit stands behind a scan of that charge.
 pub record IsRunOf (job : JobParts) (r : RunRecord) : Type 0 where
   pub job_is : r.job ≡ job
   pub first : List ℕ
-  pub image : IsFirstImage job.program first
+  pub image : AreFirstWords job.program job.start first
   pub charges : r.charges ≡ (board_run job first).charges
   pub words : r.words ≡ (board_run job first).words
   pub stands : (n : ℕ) → BoardStands (setup_of job) (board_after job first n)
   pub grows : (n : ℕ) → (more : List Entry) × (journal_in r ≡ journal (board_after job first n) ++ more)
-  pub legal : IsLegal job.program job.readings (open_model job.program) (journal_in r)
+  pub legal : IsLegal job.program job.readings (first_of job) (journal_in r)
   pub few : length (journal_in r) < 2 ^ 32
-  pub in_order : ReadingsInOrder job.program job.readings (open_model job.program) (journal_in r)
-  pub each_once : EachEventOnce job.program job.readings (open_model job.program) (journal_in r)
-  pub states : StatesByCommits job.program job.readings (open_model job.program) (journal_in r)
-  pub stamps : StampsByCommits job.program job.readings (open_model job.program) (journal_in r)
+  pub in_order : ReadingsInOrder job.program job.readings (first_of job) (journal_in r)
+  pub each_once : EachEventOnce job.program job.readings (first_of job) (journal_in r)
+  pub states : StatesByCommits job.program job.readings (first_of job) (journal_in r)
+  pub stamps : StampsByCommits job.program job.readings (first_of job) (journal_in r)
   pub scanned : ChargesAreScanned r.charges
 
 -- the text of a run: the outputs that its journal committed, the summary, and what is shown besides

@@ -2,9 +2,9 @@
 
 ghost use Rattle.std.specs.Prelude.{◌≡◌, ◌++◌, ℕ, ◌<◌, ◌^◌, All, length, take, IfOk, OnOk};
 ghost use Rattle.std.specs.List.{flat_map};
+ghost use Rattle.job_parts.specs.Job.{first_of};
 ghost use Rattle.never_cut.specs.Journal.{after, IsLegal};
 ghost use Rattle.never_cut.specs.Replaying.{model_of};
-ghost use Rattle.never_cut.specs.State.{open_model};
 ghost use Rattle.never_cut.specs.Within.{HasRoom};
 ghost use Rattle.ink_report.specs.Conditions.{FitsProgram, IsSupported, NamesPart};
 ghost use Rattle.ink_report.specs.Report.{entries_part};
@@ -25,10 +25,10 @@ pub fn report(alloc: Global, run: &RunRecord, flags: Flags) -> Result<Vec<u8>, N
     requires supported { IsSupported flags }
     ensures { IfOk result (λ text. text.items ≡ run_text_of run.now flags) }
 {
+    let program = run.job.accepted().program();
     let charges = run.charges.as_slice();
     let model = state_after(alloc, &run.job, charges)?;
     let summary = summary_after(alloc, &run.job, &model, charges)?;
-    let program = run.job.accepted().program();
     let mut out = Vec::new(alloc);
     put_head(&mut out, program, model.outputs.as_slice(), &summary, flags)?;
     put_journal(&mut out, program, charges, flags)?;
@@ -37,15 +37,25 @@ pub fn report(alloc: Global, run: &RunRecord, flags: Flags) -> Result<Vec<u8>, N
 
 // The state of the never-cut kernel after the entries of all charges.
 fn state_after(alloc: Global, job: &Job, charges: &[ChargeRecord]) -> Result<Model, NoMemory>
-    requires legal { IsLegal job.now.program job.now.readings (open_model job.now.program) (flat_map entries_of charges.now) }
+    requires legal { IsLegal job.now.program job.now.readings (first_of job.now) (flat_map entries_of charges.now) }
     requires few { length (flat_map entries_of charges.now) < 2 ^ 32 }
-    ensures { IfOk result (λ m. m ≡ after job.now.program job.now.readings (open_model job.now.program) (flat_map entries_of charges.now)) }
+    ensures { IfOk result (λ m. m ≡ after job.now.program job.now.readings (first_of job.now) (flat_map entries_of charges.now)) }
 {
-    let mut state = Replaying::open(alloc, job.accepted().program())?;
+    let mut state = first_state(alloc, job)?;
     for charge in charges {
         enter_all(&mut state, alloc, job, charge.entries.as_slice())?;
     }
     Ok(state.into_model())
+}
+
+// The state at which the run of a job begins.
+fn first_state(alloc: Global, job: &Job) -> Result<Replaying, NoMemory>
+    ensures { IfOk result (λ state. model_of state ≡ first_of job.now) }
+{
+    match job.start() {
+        None => Replaying::open(alloc, job.accepted().program()),
+        Some(start) => Replaying::begin(alloc, &start.model),
+    }
 }
 
 // Enters the entries of a charge.

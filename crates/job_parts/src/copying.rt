@@ -3,7 +3,9 @@
 ghost use Rattle.std.specs.Prelude.{◌≡◌, IfOk};
 
 use crate::charge::Charge;
+use crate::start::Start;
 use ink_base::NoMemory;
+use never_cut::Replaying;
 use prog_check::TryCopy;
 use sqlite_items::Items;
 use std::alloc::Global;
@@ -29,4 +31,17 @@ pub fn copied_readings(
         copy.push(Items::from_slice(alloc, values.as_slice())?)?;
     }
     Ok(copy)
+}
+
+/// An equal start, where there is one.
+pub fn copied_start(alloc: Global, start: &Option<Start>) -> Result<Option<Start>, NoMemory>
+    ensures { IfOk result (λ copy. copy ≡ start.now) }
+{
+    match start {
+        None => Ok(None),
+        Some(start) => Ok(Some(Start {
+            words: Items::from_slice(alloc, start.words.as_slice())?,
+            model: Replaying::begin(alloc, &start.model)?.into_model(),
+        })),
+    }
 }

@@ -1,5 +1,5 @@
 -- A core that begins again in the memory that is there.
-use Rattle.kernel_core.proofs.Common.{◌≡◌, ℕ, zero, suc, List, [], ◌∷◌, length, map, get_or, refl, sym, ap, ◌∙◌, subst, length-map, Layout, IsFirstImage, first_row, Pusher, JobParts, IsJob, Kernel, first_kernel, not_begun, Board, first_board, StandsFirst, setup_of, Recorded, emptied, IsCore, row_in, charge_in, rebooted, none_recorded, no_pusher, IsFirstRecord, AreFirstPushers, AreFirstRecords}
+use Rattle.kernel_core.proofs.Common.{◌≡◌, ℕ, zero, suc, List, [], ◌∷◌, length, map, get_or, refl, sym, ap, ◌∙◌, subst, length-map, Layout, AreFirstWords, first_row, Pusher, JobParts, IsJob, Kernel, first_kernel, not_begun, Board, first_board, StandsFirst, setup_of, Recorded, emptied, IsCore, row_in, charge_in, rebooted, none_recorded, no_pusher, IsFirstRecord, AreFirstPushers, AreFirstRecords}
 use Rattle.kernel_core.proofs.CoreSteps.{records_count}
 use Rattle.kernel_core.proofs.JobMoves.{job_first}
 use Rattle.kernel_core.proofs.Starts.{first_core, first_fields}
@@ -34,7 +34,7 @@ module _ (job : JobParts) (l : Layout) (b : Board) (room : ℕ) (ps : List Pushe
   abbrev Again : List ℕ → Kernel → List Pusher → List Recorded → Board
   Again words k qs rs = record { words = words; kernel = k; rows = map row_in qs; charges = map charge_in rs; begun = 0 }
 
-  module _ (is : IsJob job) (words : List ℕ) (k : Kernel) (qs : List Pusher) (rs : List Recorded) (image : IsFirstImage job.program words) (kernel : k ≡ first_kernel) (lost : qs ≡ map rebooted ps) (cleared : rs ≡ map emptied records) where
+  module _ (is : IsJob job) (words : List ℕ) (k : Kernel) (qs : List Pusher) (rs : List Recorded) (image : AreFirstWords job.program job.start words) (kernel : k ≡ first_kernel) (lost : qs ≡ map rebooted ps) (cleared : rs ≡ map emptied records) where
     first : StandsFirst (setup_of job) words
     first = job_first job words is image
 

@@ -26,7 +26,7 @@ pub use Rattle.ink_layout.specs.Layouts.{IsLayout}
 pub use Rattle.ink_layout.specs.Points.{entry_of_point}
 pub use Rattle.ink_layout.specs.Shape.{IsOnBoard, pages_of, pipe_words, queue_words, shape_of, task_words, thread_shape, words_of}
 pub use Rattle.ink_layout.specs.declared.kernel_point.KernelPoint.{KernelPoint}
-pub use Rattle.job_parts.specs.Job.{AreReadings, IsJob, IsRightCharge, JobParts, charge_turns, item_turns}
+pub use Rattle.job_parts.specs.Job.{AreFirstWords, AreReadings, IsJob, IsRightCharge, JobParts, charge_turns, first_model, first_of, item_turns}
 pub use Rattle.job_parts.specs.declared.charge.Charge.{Charge}
 pub use Rattle.job_parts.specs.declared.item.Item.{Item}
 pub use Rattle.never_cut.proofs.Follows.{follow_private, push_follows, same_follows}

@@ -21,11 +21,14 @@ false_first : (a c : Bool) → a ≡ false → (a && c) ≡ false
 false_first true c is = absurd (let clash : true ≡ false = is in cc)
 false_first false c is = refl
 
+pub past_tail : (program : Program) (words : List ℕ) (t : ℕ) → length program.threads ≤ t → memory_of (shape_of program) words (Tail t) ≡ 0
+past_tail program words t past = nothing_at program words (Tail t) (false_first _ _ (no_queue_word program t past))
+
 first_tail : (program : Program) (words : List ℕ) (t : ℕ) → IsFirstImage program words → memory_of (shape_of program) words (Tail t) ≡ 0
 first_tail program words t image =
     elim (cases_lt t (length program.threads)) [
       | inl lt ↦ image.each (Tail t) lt
-      | inr past ↦ nothing_at program words (Tail t) (false_first _ _ (no_queue_word program t past))
+      | inr past ↦ past_tail program words t past
     ]
 
 -- a place past the sources has no words
@@ -36,18 +39,24 @@ past_sources program words p n has is past =
     let size = in_rest program n (region (shape_of program) p) is in
     nothing_at program words p (false_second (has_indices (shape_of program) p) _ (le-ltb _ _ (omega (arith, size))))
 
+pub past_ack : (program : Program) (words : List ℕ) (i : ℕ) → length program.sources ≤ i → memory_of (shape_of program) words (Ack i) ≡ 0
+past_ack program words i past = past_sources program words (Ack i) 0 refl (omega (arith, length-map program.threads thread_shape, length-map program.pipes pipe_words, length-map program.threads queue_words)) past
+
+pub past_src : (program : Program) (words : List ℕ) (i : ℕ) → length program.sources ≤ i → memory_of (shape_of program) words (Src i) ≡ 0
+past_src program words i past = past_sources program words (Src i) 2 refl (omega (arith, length-map program.threads thread_shape, length-map program.pipes pipe_words, length-map program.threads queue_words)) past
+
 first_ack : (program : Program) (words : List ℕ) (i : ℕ) → IsFirstImage program words → memory_of (shape_of program) words (Ack i) ≡ 0
 first_ack program words i image =
     elim (cases_lt i (length program.sources)) [
       | inl lt ↦ image.each (Ack i) lt
-      | inr past ↦ past_sources program words (Ack i) 0 refl (omega (arith, length-map program.threads thread_shape, length-map program.pipes pipe_words, length-map program.threads queue_words)) past
+      | inr past ↦ past_ack program words i past
     ]
 
 first_src : (program : Program) (words : List ℕ) (i : ℕ) → IsFirstImage program words → memory_of (shape_of program) words (Src i) ≡ 0
 first_src program words i image =
     elim (cases_lt i (length program.sources)) [
       | inl lt ↦ image.each (Src i) lt
-      | inr past ↦ past_sources program words (Src i) 2 refl (omega (arith, length-map program.threads thread_shape, length-map program.pipes pipe_words, length-map program.threads queue_words)) past
+      | inr past ↦ past_src program words i past
     ]
 
 open_queue_at : (defs : List ThreadDef) (t : ℕ) → queue_of (get_or (map open_thread defs) t no_thread) ≡ open_queue

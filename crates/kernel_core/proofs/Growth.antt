@@ -1,5 +1,5 @@
 -- The journal of a board grows by at most one entry a move, and at the end it is what the records of the charges keep.
-use Rattle.kernel_core.proofs.Common.{◌≡◌, ℕ, zero, suc, ◌+◌, ◌^◌, ◌<◌, ◌≤◌, cond, Bool, true, false, List, [], ◌∷◌, ◌++◌, length, take, replicate, Option, Some, None, refl, sym, ap, ◌∙◌, subst, arith, length-set, append-nil, append_assoc, take_all, flat_map, length-replicate, Actor, Entry, Tick, IsFirstImage, entry_of_point, Charge, Item, JobParts, IsJob, is_left, point_of, port_of, readings_of, noted, IsLegal, open_model, lasts_less, point_found, ChargeRecord, not_begun, with_kernel, with_source, with_tick, journal_of, Setup, Board, Move, Cut, Turn, sides, journal, finds, kernel_access, source_access, source_made, row_of, entry_of_source, turn, cut, move, moved_by, first_board, HasSize, AreMoves, turns, moves_of, moves, run_first, run, setup_of}
+use Rattle.kernel_core.proofs.Common.{◌≡◌, ℕ, zero, suc, ◌+◌, ◌^◌, ◌<◌, ◌≤◌, cond, Bool, true, false, List, [], ◌∷◌, ◌++◌, length, take, replicate, Option, Some, None, refl, sym, ap, ◌∙◌, subst, arith, length-set, append-nil, append_assoc, take_all, flat_map, length-replicate, Actor, Entry, Tick, AreFirstWords, entry_of_point, Charge, Item, JobParts, IsJob, is_left, point_of, port_of, readings_of, noted, IsLegal, first_of, lasts_less, point_found, ChargeRecord, not_begun, with_kernel, with_source, with_tick, journal_of, Setup, Board, Move, Cut, Turn, sides, journal, finds, kernel_access, source_access, source_made, row_of, entry_of_source, turn, cut, move, moved_by, first_board, HasSize, AreMoves, turns, moves_of, moves, run_first, run, setup_of}
 use Rattle.kernel_core.specs.Moves.{turns_of}
 use Rattle.ink_base.specs.declared.actor.Actor.TheVariants as actors
 use Rattle.kernel_core.specs.Listed as listed
@@ -129,7 +129,7 @@ pub run_journal : (s : Setup) (words : List ℕ) (charges : List Charge) → jou
 run_journal s words charges =
     ap (λ n. journal_of (run s words charges).charges n) (all_begun s words charges ∙ sym (all_recorded s words charges)) ∙ journal_is (run s words charges).charges
 
-module _ (job : JobParts) (words : List ℕ) (is : IsJob job) (image : IsFirstImage job.program words) where
+module _ (job : JobParts) (words : List ℕ) (is : IsJob job) (image : AreFirstWords job.program job.start words) where
   sizes : KeepSize (setup_of job) (length job.charges) (first_board (setup_of job) words (length job.charges)) (moves job.charges)
   sizes n =
       let g = job_setup job is in
@@ -137,8 +137,8 @@ module _ (job : JobParts) (words : List ℕ) (is : IsJob job) (image : IsFirstIm
       (first_holds (setup_of job) words (length job.charges) g (job_first job words is image))
       (moves_taken (setup_of job) (length job.charges) 0 n (moves job.charges) (job_moves job is))
       (record {
-        clock = let few = ticks_taken n (moves job.charges) in let all = job_ticks job is in omega arith;
-        counts = lasts_less (turns (moves job.charges)) (turns (take n (moves job.charges))) (open_model job.program) (turns_taken n (moves job.charges)) (job_range job is).counts;
+        clock = let few = ticks_taken n (moves job.charges) in let all = (job_range job is).clock in omega arith;
+        counts = lasts_less (turns (moves job.charges)) (turns (take n (moves job.charges))) (first_of job) (turns_taken n (moves job.charges)) (job_range job is).counts;
       })).0.size
 
   -- the journal after the first cuts and turns is a beginning of the whole run's
@@ -153,8 +153,8 @@ module _ (job : JobParts) (words : List ℕ) (is : IsJob job) (image : IsFirstIm
       omega (arith, ap (λ l. length l) g.all, all_begun (setup_of job) words job.charges, charges_turns job.charges, is.charges.count, is.charges.turns)
 
   -- and it is legal
-  pub run_legal : IsLegal job.program job.readings (open_model job.program) (journal (run (setup_of job) words job.charges))
+  pub run_legal : IsLegal job.program job.readings (first_of job) (journal (run (setup_of job) words job.charges))
   run_legal =
-      subst (λ l. IsLegal job.program job.readings (open_model job.program) (journal (moved_by (setup_of job) (first_board (setup_of job) words (length job.charges)) l)))
+      subst (λ l. IsLegal job.program job.readings (first_of job) (journal (moved_by (setup_of job) (first_board (setup_of job) words (length job.charges)) l)))
       (take_all (length (moves job.charges)) (moves job.charges) (omega arith))
       (job_prefixes_stand job words is image (length (moves job.charges))).legal

@@ -1,8 +1,9 @@
 -- What a job lists: its board can make the moves, clock and stamps fit their words to the end, and the board stands after each move.
-use Rattle.kernel_core.proofs.Common.{◌≡◌, inl, inr, ℕ, zero, suc, ◌+◌, ◌*◌, ◌^◌, ◌<◌, ◌≤◌, List, [], ◌∷◌, ◌++◌, length, replicate, get_or, refl, sym, ap, ◌∙◌, subst, arith, append_assoc, All, flat_map, cases_lt, get_or_past, All-get_or, All-head, All-tail, sum_by-cons, Actor, IsFirstImage, Charge, Item, JobParts, IsJob, IsRightCharge, AreReadings, item_turns, charge_turns, readings_of, open_model, AreShort, open_lasts, open_starts, Setup, Move, Turn, IsSetup, StandsFirst, BoardStands, turns_of, moves_of, moves, run_first, IsActor, AreMoves, ticks, turns, IsInRange, setup_of}
+use Rattle.kernel_core.proofs.Common.{◌≡◌, inl, inr, ℕ, zero, suc, ◌+◌, ◌-◌, ◌*◌, ◌^◌, ◌<◌, ◌≤◌, List, [], ◌∷◌, ◌++◌, length, replicate, get_or, refl, sym, ap, ◌∙◌, subst, arith, append_assoc, All, flat_map, cases_lt, get_or_past, All-get_or, All-head, All-tail, sum_by-cons, Actor, AreFirstWords, first_of, Charge, Item, JobParts, IsJob, IsRightCharge, AreReadings, item_turns, charge_turns, readings_of, AreShort, lasts_less, Setup, Move, Turn, IsSetup, StandsFirst, BoardStands, turns_of, moves_of, moves, run_first, IsActor, AreMoves, ticks, turns, IsInRange, setup_of}
 use Rattle.job_parts.specs.Job.{IsOnBoard}
 use Rattle.kernel_core.proofs.CoreRuns.{actor_on}
-use Rattle.kernel_core.proofs.Firsts.{every_prefix, first_stands}
+use Rattle.kernel_core.proofs.FirstWords.{can_begin, words_stand, clock_half}
+use Rattle.kernel_core.proofs.Firsts.{every_prefix}
 
 -- an item's actor is one of the board
 abbrev IsOn : ℕ → Item → Type 0
@@ -85,7 +86,7 @@ charges_turns (charge ∷ charges) =
     ∙ (ap (λ n. item_turns charge.items + n) (charges_turns charges) ∙ sym (sum_by-cons (λ (c : Charge). item_turns c.items) charge charges)))
 
 -- the clock fits its word to the job's end
-pub job_ticks : (job : JobParts) → IsJob job → ticks (moves job.charges) < 2 ^ 47
+pub job_ticks : (job : JobParts) → IsJob job → ticks (moves job.charges) < 2 ^ 46
 job_ticks job is = omega (arith, charges_ticks (length job.program.sources) job.charges is.charges.right, is.charges.count, is.charges.turns)
 
 -- and the stamps fit theirs
@@ -116,18 +117,21 @@ job_short job is = record {
 
 -- what a job sets up
 pub job_setup : (job : JobParts) → IsJob job → IsSetup (setup_of job)
-job_setup job is = record { accepted = is.accepted; short = job_short job is; start = open_starts job.program job.readings is.accepted (job_short job is).few }
+job_setup job is = record { accepted = is.accepted; short = job_short job is; start = can_begin job.program job.readings job.start is.accepted (job_short job is) is.start }
 
--- the first image stands for the state at which a job's run begins
-pub job_first : (job : JobParts) (words : List ℕ) → IsJob job → IsFirstImage job.program words → StandsFirst (setup_of job) words
-job_first job words is image = first_stands (setup_of job) words is.accepted (job_short job is) refl image
+-- the first words stand for the state at which a job's run begins
+pub job_first : (job : JobParts) (words : List ℕ) → IsJob job → AreFirstWords job.program job.start words → StandsFirst (setup_of job) words
+job_first job words is image = words_stand job.program job.readings job.start words is.accepted (job_short job is) is.start image
 
 -- clock and counts fit their words to the job's end
-pub job_range : (job : JobParts) → IsJob job → IsInRange (open_model job.program) (ticks (moves job.charges)) (turns (moves job.charges))
-job_range job is = record { clock = let few = job_ticks job is in omega arith; counts = open_lasts job.program (turns (moves job.charges)) (let few = job_turns job is in omega arith) }
+pub job_range : (job : JobParts) → IsJob job → IsInRange (first_of job) (ticks (moves job.charges)) (turns (moves job.charges))
+job_range job is = record {
+  clock = let few = job_ticks job is in let half = clock_half job.program job.readings job.start is.start in omega arith;
+  counts = lasts_less (2 ^ 32 - 1) (turns (moves job.charges)) (first_of job) (let few = job_turns job is in omega arith) (job_setup job is).start.counts;
+}
 
 -- after every cut and turn that the job lists
-pub job_prefixes_stand : (job : JobParts) (words : List ℕ) → IsJob job → IsFirstImage job.program words → (n : ℕ) →
+pub job_prefixes_stand : (job : JobParts) (words : List ℕ) → IsJob job → AreFirstWords job.program job.start words → (n : ℕ) →
     BoardStands (setup_of job) (run_first (setup_of job) words job.charges n)
 job_prefixes_stand job words is image n =
     let g = job_setup job is in

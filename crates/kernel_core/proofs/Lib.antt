@@ -14,6 +14,7 @@ pub mod Cuts
 pub mod Runs
 pub mod Standing
 pub mod Firsts
+pub mod FirstWords
 pub mod CoreSources
 pub mod CoreSteps
 pub mod Stamps

@@ -1,5 +1,5 @@
 -- The words of a record stand as those of its board.
-use Rattle.kernel_core.proofs.Common.{◌≡◌, ℕ, zero, suc, ◌≤◌, List, [], ◌∷◌, ◌++◌, refl, sym, ap, ◌∙◌, subst, arith, flat_map, Entry, JobParts, Layout, Pusher, open_model, after, IsLegal, Stands, ChargeRecord, charge_of, journal_of, Recorded, Board, journal, memory, setup_of, IsCore, RecordStands, entries_of}
+use Rattle.kernel_core.proofs.Common.{◌≡◌, ℕ, zero, suc, ◌≤◌, List, [], ◌∷◌, ◌++◌, refl, sym, ap, ◌∙◌, subst, arith, flat_map, Entry, JobParts, Layout, Pusher, first_of, after, IsLegal, Stands, ChargeRecord, charge_of, journal_of, Recorded, Board, journal, memory, setup_of, IsCore, RecordStands, entries_of}
 use Rattle.kernel_core.proofs.CoreSteps.{stands}
 
 no_entries : (charges : List ChargeRecord) → ((k : ℕ) → (charge_of charges k).entries ≡ []) → flat_map entries_of charges ≡ []
@@ -18,7 +18,7 @@ module _ (job : JobParts) (l : Layout) (b : Board) (room : ℕ) (ps : List Pushe
       let board = stands job l b room ps records h in
       let same : journal b ≡ flat_map entries_of b.charges = all_entries b.charges b.begun h.holds.size.later in
       record {
-        legal = subst (λ (es : List Entry). IsLegal job.program job.readings (open_model job.program) es) same board.legal;
-        stands = subst (λ (es : List Entry). Stands (memory (setup_of job) b) job.program (after job.program job.readings (open_model job.program) es)) same board.stands;
+        legal = subst (λ (es : List Entry). IsLegal job.program job.readings (first_of job) es) same board.legal;
+        stands = subst (λ (es : List Entry). Stands (memory (setup_of job) b) job.program (after job.program job.readings (first_of job) es)) same board.stands;
         image = board.image;
       }

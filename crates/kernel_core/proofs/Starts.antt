@@ -1,11 +1,12 @@
 -- The fields of a core before its first charge.
-use Rattle.kernel_core.proofs.Common.{◌≡◌, inl, inr, ℕ, zero, suc, ◌+◌, ◌<◌, List, [], ◌∷◌, ◌++◌, length, map, replicate, get_or, length-append, refl, sym, ap, ◌∙◌, subst, arith, cases_eq, length-replicate, Program, Layout, first_row, IsPort, Pusher, port_of, IsAccepted, source_thread, Tail, Slot, Ack, Src, address, shape_of, words_of, queue_place, below, IsFirstImage, IsLayout, JobParts, IsJob, first_kernel, ChargeRecord, not_begun, Recorded, Board, sides, first_board, IsSetup, StandsFirst, Holds, setup_of, IsCore, AreRecords, CanCount, charge_in, row_in, none_recorded, no_pusher, turns_from, first_pusher, AreFirstPushers, IsFirstRecord, AreFirstRecords, open_lasts}
+use Rattle.kernel_core.proofs.Common.{◌≡◌, inl, inr, ℕ, zero, suc, ◌+◌, ◌-◌, ◌^◌, ◌<◌, List, [], ◌∷◌, ◌++◌, length, map, replicate, get_or, length-append, refl, sym, ap, ◌∙◌, subst, arith, cases_eq, length-replicate, Program, Layout, first_row, IsPort, Pusher, port_of, IsAccepted, source_thread, Tail, Slot, Ack, Src, address, shape_of, words_of, queue_place, below, IsFirstImage, IsLayout, JobParts, IsJob, first_kernel, ChargeRecord, not_begun, Recorded, Board, sides, first_board, IsSetup, StandsFirst, Holds, setup_of, IsCore, AreRecords, CanCount, charge_in, row_in, none_recorded, no_pusher, turns_from, first_pusher, AreFirstPushers, IsFirstRecord, AreFirstRecords, lasts_less, first_of}
 use Rattle.std.proofs.Math.ListN.{get_or-append}
 use Rattle.std.proofs.Math.Seq.{get_or-append_seam}
 use Rattle.ink_layout.proofs.Bounds.{few_words}
 use Rattle.kernel_core.proofs.CoreJobs.{turns_few}
 use Rattle.kernel_core.proofs.CoreCuts.{nothing_counted}
 use Rattle.kernel_core.proofs.Firsts.{first_holds}
+use Rattle.kernel_core.proofs.FirstWords.{clock_half}
 
 -- a list of which each element has the same image
 map_same : {X Y : Type 0} (f : X → Y) (y : Y) (xs : List X) (n : ℕ) (none : X) → length xs ≡ n → ((k : ℕ) → k < n → f (get_or xs k none) ≡ y) → map f xs ≡ replicate n y
@@ -106,7 +107,11 @@ module _ (job : JobParts) (words : List ℕ) (pushers : List Pusher) (records : 
     rows = refl;
     machines = λ i lt. record { port = ap (λ (p : Pusher). p.port) (ps.each i lt); right = right_port job g.accepted i lt };
     holds = subst (λ b. Holds (setup_of job) (length job.charges) b) (sym first_fields) (first_holds (setup_of job) words (length job.charges) g first);
-    range = let turns = turns_few job 0 is in let few = is.charges.count in record { clock = omega arith; counts = open_lasts job.program (0 + turns_from job 0) (omega arith); turns = omega arith };
+    range = let turns = turns_few job 0 is in let few = is.charges.count in record {
+      clock = let half = clock_half job.program job.readings job.start is.start in omega arith;
+      counts = lasts_less (2 ^ 32 - 1) (0 + turns_from job 0) (first_of job) (omega arith) g.start.counts;
+      turns = omega arith;
+    };
     charges = refl;
     records_are = first_records_are;
   }

@@ -1,20 +1,20 @@
 -- The value of a core.
-use Rattle.std.specs.Prelude.{ℕ, List, slice_index_or, []}
+use Rattle.std.specs.Prelude.{ℕ, List, slice_index_or, [], Option}
 use Rattle.task_isa.specs.declared.program.Program.{Program}
-use Rattle.job_parts.specs.Job.{JobParts, item_turns}
+use Rattle.job_parts.specs.Job.{JobParts, item_turns, first_of}
 use Rattle.ink_base.specs.declared.actor.Actor.TheVariants as actors
 use Rattle.job_parts.specs.declared.charge.Charge.{Charge}
 use Rattle.job_parts.specs.declared.item.Item.{Item}
-use Rattle.never_cut.specs.State.{open_model}
+use Rattle.job_parts.specs.declared.start.Start.{Start}
 use Rattle.kernel_core.specs.Board.{Setup, Board}
 
 -- the job of these parts
-abbrev pub job_of : Program → List (List ℕ) → List Charge → JobParts
-job_of program readings charges = record { program = program; readings = readings; charges = charges }
+abbrev pub job_of : Program → List (List ℕ) → List Charge → Option Start → JobParts
+job_of program readings charges start = record { program = program; readings = readings; charges = charges; start = start }
 
--- the program and the readings of a job
+-- the program and the readings of a job, and the state at which its run begins
 abbrev pub setup_of : JobParts → Setup
-setup_of job = record { program = job.program; readings = job.readings; first = open_model job.program }
+setup_of job = record { program = job.program; readings = job.readings; first = first_of job }
 
 -- a job, its board, and how many turns the charge at hand has still room for
 pub record View : Type 0 where

@@ -1,7 +1,6 @@
 //! The board of a job and its turns.
 ghost use Rattle.std.specs.Prelude.{◌≡◌, ◌+◌, ◌<◌, ◌≤◌, [], length, map, slice_index_or, vec_capacity, Some};
 ghost use Rattle.ink_layout.specs.Points.{entry_of_point};
-ghost use Rattle.ink_layout.specs.Image.{IsFirstImage};
 ghost use Rattle.push_core.specs.Table.{IsLeft, want_of};
 ghost use Rattle.source_laws.specs.Rows.{port_of};
 ghost use Rattle.never_cut.specs.Entries.{readings_of};
@@ -11,7 +10,7 @@ ghost use Rattle.kernel_core.specs.Moves.{IsActor};
 ghost use Rattle.kernel_core.specs.Made.{made_by, kernel_made, access_made, source_makes, clock_made, nothing_made, accesses_in};
 ghost use Rattle.kernel_core.specs.Settling.{RefusalsKeep, SkipsStore};
 ghost use Rattle.kernel_core.specs.RunRecords.{RecordStands};
-ghost use Rattle.job_parts.specs.Job.{IsJob, item_turns, charge_turns};
+ghost use Rattle.job_parts.specs.Job.{AreFirstWords, IsJob, item_turns, charge_turns};
 ghost use Rattle.kernel_core.specs.kept.Starts.{AreFirstPushers, AreFirstRecords};
 ghost use Rattle.kernel_core.specs.kept.Recorded.{emptied};
 ghost use Rattle.kernel_core.specs.First.{StandsFirst};
@@ -23,12 +22,12 @@ use crate::kernel::Kernel;
 use crate::made::Made;
 use crate::recording::Recording;
 use crate::run_record::{RunRecord, finished};
-use crate::start::Start;
+use crate::start::{CoreParts, write_first_words};
 use fram_words::{Access, Fram};
 use ink_base::limits::TURNS;
 use ink_base::{Actor, Entry, SourceId};
-use ink_layout::{KernelPoint, Plan, write_first_image};
-use job_parts::{Charge, Job};
+use ink_layout::{KernelPoint, Plan};
+use job_parts::{Charge, Job, Start};
 use push_core::{Point, Pusher, Row};
 use sqlite_items::Items;
 use std::marker::Model;
@@ -47,30 +46,31 @@ pub struct Core {
     begun: usize,
     room: u64,
     kept: Vec<ChargeRecord>,
+    start: Option<Start>,
 }
 
 impl Model for Core {
     ghost Value = { View };
 
-    ghost view = { λ c. record { job = job_of c.plan.accepted c.readings c.listed; board = record { words = c.fram; kernel = c.kernel; rows = map row_in c.pushers.items; charges = map charge_in c.charges.items; begun = c.begun }; room = c.room } };
+    ghost view = { λ c. record { job = job_of c.plan.accepted c.readings c.listed c.start; board = record { words = c.fram; kernel = c.kernel; rows = map row_in c.pushers.items; charges = map charge_in c.charges.items; begun = c.begun }; room = c.room } };
 
-    ghost invariant = { λ c. (IsJob (job_of c.plan.accepted c.readings c.listed) × (c.kept.items ≡ []) × (length c.listed ≤ vec_capacity c.kept)) × IsCore (job_of c.plan.accepted c.readings c.listed) c.plan.layout (record { words = c.fram; kernel = c.kernel; rows = map row_in c.pushers.items; charges = map charge_in c.charges.items; begun = c.begun }) c.room c.pushers.items c.charges.items };
+    ghost invariant = { λ c. (IsJob (job_of c.plan.accepted c.readings c.listed c.start) × (c.kept.items ≡ []) × (length c.listed ≤ vec_capacity c.kept)) × IsCore (job_of c.plan.accepted c.readings c.listed c.start) c.plan.layout (record { words = c.fram; kernel = c.kernel; rows = map row_in c.pushers.items; charges = map charge_in c.charges.items; begun = c.begun }) c.room c.pushers.items c.charges.items };
 }
 
 impl Core {
     // The core of a job from what it begins with.
-    pub(crate) fn begin(start: Start) -> Core
-        requires job { IsJob (job_of start.plan.accepted start.readings start.listed) }
-        requires first { StandsFirst (setup_of (job_of start.plan.accepted start.readings start.listed)) start.fram }
-        requires pushers { AreFirstPushers start.plan.accepted (length start.plan.accepted.sources) start.pushers.items }
-        requires charges { AreFirstRecords (job_of start.plan.accepted start.readings start.listed) (length start.listed) start.charges.items }
-        requires empty { start.kept.items ≡ [] }
-        requires space { length start.listed ≤ vec_capacity start.kept }
-        ensures job { result.job ≡ job_of start.plan.accepted start.readings start.listed }
-        ensures words { result.board.words ≡ start.fram }
-        ensures board { result.board ≡ first_board (setup_of (job_of start.plan.accepted start.readings start.listed)) start.fram (length start.listed) }
+    pub(crate) fn begin(parts: CoreParts) -> Core
+        requires job { IsJob (job_of parts.plan.accepted parts.readings parts.listed parts.start) }
+        requires first { StandsFirst (setup_of (job_of parts.plan.accepted parts.readings parts.listed parts.start)) parts.fram }
+        requires pushers { AreFirstPushers parts.plan.accepted (length parts.plan.accepted.sources) parts.pushers.items }
+        requires charges { AreFirstRecords (job_of parts.plan.accepted parts.readings parts.listed parts.start) (length parts.listed) parts.charges.items }
+        requires empty { parts.kept.items ≡ [] }
+        requires space { length parts.listed ≤ vec_capacity parts.kept }
+        ensures job { result.job ≡ job_of parts.plan.accepted parts.readings parts.listed parts.start }
+        ensures words { result.board.words ≡ parts.fram }
+        ensures board { result.board ≡ first_board (setup_of (job_of parts.plan.accepted parts.readings parts.listed parts.start)) parts.fram (length parts.listed) }
     {
-        let Start {
+        let CoreParts {
             plan,
             readings,
             listed,
@@ -78,7 +78,8 @@ impl Core {
             pushers,
             charges,
             kept,
-        } = start;
+            start,
+        } = parts;
         Core {
             plan,
             readings,
@@ -90,6 +91,7 @@ impl Core {
             begun: 0,
             room: 0,
             kept,
+            start,
         }
     }
 
@@ -112,22 +114,23 @@ impl Core {
             begun: _,
             room: _,
             kept,
+            start,
         } = self;
         let Plan {
             accepted,
             layout: _,
         } = plan;
         RunRecord {
-            job: Job::new(accepted, readings, listed),
+            job: Job::new(accepted, readings, listed, start),
             charges: finished(charges, kept),
             words: Items::from_vec(fram.into_words()),
         }
     }
 
-    /// The board as it was before its first charge, in the memory that is there: the words of the first image, all registers lost, and no
+    /// The board as it was before its first charge, in the memory that is there: the words with which its run began, all registers lost, and no
     /// charge begun. So the job can be run again. It takes no memory.
     pub fn begin_again(&mut self)
-        ensures image { IsFirstImage self.new.job.program self.new.board.words }
+        ensures image { AreFirstWords self.new.job.program self.new.job.start self.new.board.words }
         ensures board { self.new.board ≡ first_board (setup_of self.old.job) self.new.board.words (length self.old.job.charges) }
         ensures stands { BoardStands (setup_of self.new.job) self.new.board }
         ensures job { self.new.job ≡ self.old.job }
@@ -137,11 +140,11 @@ impl Core {
     }
 
     fn forget_run(&mut self)
-        ensures image { IsFirstImage self.new.job.program self.new.board.words }
+        ensures image { AreFirstWords self.new.job.program self.new.job.start self.new.board.words }
         ensures board { self.new.board ≡ first_board (setup_of self.old.job) self.new.board.words (length self.old.job.charges) }
         ensures job { self.new.job ≡ self.old.job }
     {
-        write_first_image(&mut self.fram, &self.plan.accepted, &self.plan.layout);
+        write_first_words(&mut self.fram, &self.plan, &self.start);
         self.kernel = Kernel::boot();
         lose_rows(&mut self.pushers);
         clear_records(&mut self.charges);

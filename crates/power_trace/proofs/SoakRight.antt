@@ -1,5 +1,6 @@
 -- A generated job is within the limits of jobs.
-use Rattle.power_trace.proofs.Common.{◌≡◌, ℕ, zero, suc, ◌+◌, ◌*◌, ◌^◌, ◌<◌, ◌≤◌, [], ◌∷◌, length, refl, arith, length-append, All, All-nil, All-push, All-from_recursion, sum_by_push, Item, Charge, JobParts, AreReadings, IsOnBoard, IsRightCharge, item_turns, charge_turns, AreCharges, IsJob, draw, drawn_items, drawn_charge, last_charge, soak_readings, soak_charges, soak_program}
+use Rattle.power_trace.proofs.Common.{◌≡◌, None, sym, ◌∙◌, ℕ, zero, suc, ◌+◌, ◌*◌, ◌^◌, ◌<◌, ◌≤◌, [], ◌∷◌, length, refl, arith, length-append, All, All-nil, All-push, All-from_recursion, sum_by_push, Item, Charge, JobParts, AreReadings, IsOnBoard, IsRightCharge, item_turns, charge_turns, AreCharges, IsJob, draw, drawn_items, drawn_charge, last_charge, soak_readings, soak_charges, soak_program}
+use Rattle.std.proofs.lemmas.Option.{none-some}
 use Rattle.std.proofs.lemmas.Nat.{mod_below, shr_below}
 use Rattle.prog_check.specs.Accepted.{IsAccepted}
 use Rattle.power_trace.specs.Soak.{state_after, draws, drawn_charges}
@@ -77,10 +78,11 @@ charges_right x =
       turns = omega (arith, turns, drawn_turns_le x 200);
     }
 
-pub soak_right : (x : ℕ) (job : JobParts) → IsAccepted job.program → job.program ≡ soak_program → job.readings ≡ soak_readings x → job.charges ≡ soak_charges x → IsJob job
-soak_right x job accepted program readings charges = record {
+pub soak_right : (x : ℕ) (job : JobParts) → IsAccepted job.program → job.program ≡ soak_program → job.readings ≡ soak_readings x → job.charges ≡ soak_charges x → job.start ≡ None → IsJob job
+soak_right x job accepted program readings charges none = record {
   accepted = accepted;
   sources = rw (program, readings) refl;
   readings = rw readings (readings_right x);
   charges = rw (program, charges) (charges_right x);
+  start = λ s is. absurd (none-some s (sym none ∙ is));
 }

@@ -33,7 +33,7 @@ parts_at tails text =
     checked p.0 p.1 >> (λ program.
     sensors_in (length (lines text)) (length program.sources) p.2 >> (λ s.
     power_in (length (lines text)) tails (length program.sources) s.1 >> (λ x.
-    Ok (record { job = record { program = program; readings = s.0; charges = x.0.list }; charge_lines = x.0.lines }, x.1))))))
+    Ok (record { job = record { program = program; readings = s.0; charges = x.0.list; start = None }; charge_lines = x.0.lines }, x.1))))))
 
 -- the job alone, and the lines from that header on
 unfoldable pub whole_at : Tails → List ℕ → Result (JobParts × List Line) JobFault

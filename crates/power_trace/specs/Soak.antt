@@ -79,4 +79,4 @@ soak_program = record {
 
 -- the generated job
 abbrev pub soak_of : ℕ → JobParts
-soak_of number = record { program = soak_program; readings = soak_readings number; charges = soak_charges number }
+soak_of number = record { program = soak_program; readings = soak_readings number; charges = soak_charges number; start = None }

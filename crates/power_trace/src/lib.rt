@@ -11,7 +11,7 @@ mod soak;
 mod soak_program;
 mod tails;
 
-pub use job_parts::{Charge, Item, Job};
+pub use job_parts::{Charge, Item, Job, Start};
 pub use parse::{Parts, parse_job, parse_parts, parse_with_lines};
 pub use power::read_power;
 pub use sensors::read_sensors;

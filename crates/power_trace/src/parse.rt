@@ -56,7 +56,7 @@ pub fn parse_with_lines(
     let (readings, at) = read_sensors(alloc, text, &tokens, at, &accepted)?;
     let (charges, at) = read_charges(alloc, text, &tokens, at, tails, &accepted)?;
     let parts = Parts {
-        job: Job::new(accepted, readings, charges.list),
+        job: Job::new(accepted, readings, charges.list, None),
         charge_lines: charges.lines,
     };
     Ok((parts, tokens, at))

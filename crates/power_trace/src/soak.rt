@@ -74,5 +74,5 @@ pub fn soak_job(alloc: Global, number: u32) -> Result<Job, NoMemory>
 {
     let accepted = soak_program(alloc)?;
     let (readings, charges) = drawn_parts(alloc, number)?;
-    Ok(Job::new(accepted, readings, charges))
+    Ok(Job::new(accepted, readings, charges, None))
 }

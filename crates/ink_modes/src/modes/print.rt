@@ -20,7 +20,7 @@ pub fn make(alloc: Global, _flags: Flags, job: Job) -> Result<Made, NoMemory>
     ensures record { IfOk result (λ made. Makes job made.record) }
     ensures text { IfOk result (λ made. made.text.items ≡ text _flags made.record) }
 {
-    let (program, _readings, _charges) = job.into_parts();
+    let (program, _readings, _charges, _start) = job.into_parts();
     let text = print_program(alloc, &program)?;
     Ok(Made {
         record: Record::Print(program),

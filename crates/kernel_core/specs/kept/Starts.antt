@@ -1,10 +1,12 @@
 -- What a core is made of, before the first charge.
-use Rattle.std.specs.Prelude.{◌≡◌, ℕ, ◌<◌, List, [], length, slice_index_or}
+use Rattle.std.specs.Prelude.{◌≡◌, ℕ, ◌<◌, List, [], length, slice_index_or, None}
 use Rattle.task_isa.specs.declared.program.Program.{Program}
+use Rattle.ink_layout.specs.Shape.{shape_of, words_of}
 use Rattle.push_core.specs.Table.{first_row}
 use Rattle.push_core.specs.declared.port.Port.{Port}
 use Rattle.push_core.specs.declared.pusher.Pusher.{Pusher}
 use Rattle.job_parts.specs.Job.{JobParts}
+use Rattle.job_parts.specs.declared.start.Start.{Start}
 use Rattle.source_laws.specs.Rows.{port_of}
 use Rattle.kernel_core.specs.Record.{not_begun}
 use Rattle.kernel_core.specs.kept.Recorded.{Recorded}
@@ -12,9 +14,13 @@ use Rattle.kernel_core.specs.Board.{sides}
 use Rattle.kernel_core.specs.Core.{setup_of, job_of, turns_in}
 use Rattle.kernel_core.specs.kept.Cores.{no_pusher, none_recorded}
 
+-- as many words as the program's board has
+abbrev pub FitsBoard : Program → Start → Type 0
+FitsBoard program start = length start.words ≡ words_of (shape_of program)
+
 -- where the words of source i of a program stand, whatever its readings
 abbrev pub port_in : Program → ℕ → Port
-port_in program i = port_of (sides (setup_of (job_of program [] []))) i
+port_in program i = port_of (sides (setup_of (job_of program [] [] None))) i
 
 -- source i before its first access
 abbrev pub first_pusher : Program → ℕ → Pusher

@@ -1,9 +1,9 @@
-use Rattle.ink_modes.proofs.Common.{◌<◌, List, length, take, sym, ap, ◌∙◌, subst, flat_map, Entry, Model, open_model, after, IsLegal, HasRoom, entries_of}
+use Rattle.ink_modes.proofs.Common.{◌<◌, List, length, take, sym, ap, ◌∙◌, subst, flat_map, Entry, Model, first_of, after, IsLegal, HasRoom, entries_of}
 use Rattle.ink_modes.proofs.Charges.{after-++, one_more, charge_legal, charge_room}
 use Rattle.ink_modes.proofs.report.state_after.Goals as goal
 
 pub loop-charge-init : goal.loop-charge-init
-loop-charge-init c = c.in_ok-state.ensures ∙ ap open_model (c.program.ensures.same ∙ c.accepted.ensures.same)
+loop-charge-init c = c.in_ok-state.ensures
 
 pub enter_all-requires-clause-legal : goal.enter_all-requires-clause-legal
 enter_all-requires-clause-legal c =
@@ -22,5 +22,5 @@ loop-charge-preserved c =
     let job = c.args.job.now in
     let front : List Entry = flat_map entries_of (take c.loop-charge.charge-index c.args.charges.now) in
     c.in_ok-enter_all.ensures ∙ (λ i. after job.program job.readings (c.loop-charge.invariant i) ((c.as_slice.ensures ∙ ap entries_of c.charge-item.is) i))
-    ∙ sym (after-++ job.program job.readings (open_model job.program) front _)
-    ∙ ap (after job.program job.readings (open_model job.program)) (sym (one_more c.args.charges.now c.loop-charge.charge-index c.charge-item.result c.loop-charge-test.true))
+    ∙ sym (after-++ job.program job.readings (first_of job) front _)
+    ∙ ap (after job.program job.readings (first_of job)) (sym (one_more c.args.charges.now c.loop-charge.charge-index c.charge-item.result c.loop-charge-test.true))

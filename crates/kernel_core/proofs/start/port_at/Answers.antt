@@ -1,4 +1,4 @@
-use Rattle.kernel_core.proofs.Common.{List, [], get_or, sym, ap, ◌∙◌, subst, Program, get_or_default, ThreadId, IsPort, job_of}
+use Rattle.kernel_core.proofs.Common.{List, [], None, get_or, sym, ap, ◌∙◌, subst, Program, get_or_default, ThreadId, IsPort, job_of}
 use Rattle.prog_check.specs.Lookup.{no_thread}
 use Rattle.kernel_core.proofs.Starts.{port_is, right_port}
 use Rattle.kernel_core.proofs.start.port_at.Goals as goal
@@ -13,9 +13,9 @@ returns-clause-port c =
       ack = c.address.ensures k;
       src = c.address-2.ensures k;
     })
-    ∙ port_is (job_of c.args.plan.now.accepted [] []) c.args.plan.now.layout c.args.i c.program.ensures.accepted
+    ∙ port_is (job_of c.args.plan.now.accepted [] [] None) c.args.plan.now.layout c.args.i c.program.ensures.accepted
     c.program.ensures.layout c.requires
 
 pub returns-clause-right : goal.returns-clause-right
 returns-clause-right c =
-    subst IsPort (sym (returns-clause-port c)) (right_port (job_of c.args.plan.now.accepted [] []) c.program.ensures.accepted c.args.i c.requires)
+    subst IsPort (sym (returns-clause-port c)) (right_port (job_of c.args.plan.now.accepted [] [] None) c.program.ensures.accepted c.args.i c.requires)

@@ -1,5 +1,6 @@
 -- Each section keeps its limits, and the check the program's; each charge has its line.
 use Rattle.power_trace.proofs.Common.{length, sym, ap, ◌∙◌, JobParts}
+use Rattle.std.proofs.lemmas.Option.{none-some}
 use Rattle.power_trace.proofs.Kept.{sensors_keep}
 use Rattle.power_trace.proofs.KeptCharges.{power_keep}
 use Rattle.power_trace.proofs.parse.parse_with_lines.Goals as goal
@@ -12,6 +13,7 @@ new-requires c =
       sources = sensors.lists;
       readings = sensors.each;
       charges = (power_keep _ _ _ _ _ c.in_ok-charges.ensures.given).charges;
+      start = λ s is. absurd (none-some s is);
     }
 
 pub returns-clause-lines : goal.returns-clause-lines
