@@ -35,7 +35,12 @@ impl Job {
     ghost use Rattle.job_parts.specs.Job.{IsJob};
 
     /// The job of these parts, which are within the limits. Where there is no start, its run begins at the first image of the program.
-    pub fn new(accepted: Accepted, readings: Items<Items<u32>>, charges: Items<Charge>, start: Option<Start>) -> Job
+    pub fn new(
+        accepted: Accepted,
+        readings: Items<Items<u32>>,
+        charges: Items<Charge>,
+        start: Option<Start>,
+    ) -> Job
         requires { IsJob (record { program = accepted; readings = readings; charges = charges; start = start }) }
         ensures { result ≡ record { program = accepted; readings = readings; charges = charges; start = start } }
     {

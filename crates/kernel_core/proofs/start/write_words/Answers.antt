@@ -14,8 +14,7 @@ one_more fram words n lt same k below = elim (cases_eq k n) [
 pub loop-addr-preserved : goal.loop-addr-preserved
 loop-addr-preserved c =
     let lt : c.loop-addr.addr < length c.loop-addr.fram = omega (arith, c.len-addr-end.ensures, c.loop-addr-test.true) in
-    let is : c.perform.new.self ≡ set c.loop-addr.fram c.loop-addr.addr (get_or c.args.words.now c.loop-addr.addr 0) = c.perform.ensures.after in
-    (
+    let is : c.perform.new.self ≡ set c.loop-addr.fram c.loop-addr.addr (get_or c.args.words.now c.loop-addr.addr 0) = c.perform.ensures.after in (
       rw is (length-set c.loop-addr.fram c.loop-addr.addr (get_or c.args.words.now c.loop-addr.addr 0) ∙ c.loop-addr.invariant.0),
       λ k below. rw is (one_more c.loop-addr.fram c.args.words.now c.loop-addr.addr lt c.loop-addr.invariant.1 k below),
     )
