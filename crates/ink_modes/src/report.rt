@@ -2,7 +2,7 @@
 
 ghost use Rattle.std.specs.Prelude.{◌≡◌, ◌++◌, ℕ, ◌<◌, ◌^◌, All, length, take, IfOk, OnOk};
 ghost use Rattle.std.specs.List.{flat_map};
-ghost use Rattle.job_parts.specs.Job.{first_of};
+ghost use Rattle.job_parts.specs.Job.{IsJob, first_of};
 ghost use Rattle.never_cut.specs.Journal.{after, IsLegal};
 ghost use Rattle.never_cut.specs.Replaying.{model_of};
 ghost use Rattle.never_cut.specs.Within.{HasRoom};
@@ -50,7 +50,8 @@ fn state_after(alloc: Global, job: &Job, charges: &[ChargeRecord]) -> Result<Mod
 
 // The state at which the run of a job begins.
 fn first_state(alloc: Global, job: &Job) -> Result<Replaying, NoMemory>
-    ensures { IfOk result (λ state. model_of state ≡ first_of job.now) }
+    ensures state { IfOk result (λ state. model_of state ≡ first_of job.now) }
+    ensures job { IfOk result (λ _. IsJob job.now) }
 {
     match job.start() {
         None => Replaying::open(alloc, job.accepted().program()),

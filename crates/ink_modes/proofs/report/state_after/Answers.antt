@@ -3,7 +3,7 @@ use Rattle.ink_modes.proofs.Charges.{after-++, one_more, charge_legal, charge_ro
 use Rattle.ink_modes.proofs.report.state_after.Goals as goal
 
 pub loop-charge-init : goal.loop-charge-init
-loop-charge-init c = c.in_ok-state.ensures
+loop-charge-init c = c.in_ok-state.ensures.state
 
 pub enter_all-requires-clause-legal : goal.enter_all-requires-clause-legal
 enter_all-requires-clause-legal c =
@@ -14,7 +14,7 @@ pub enter_all-requires-clause-room : goal.enter_all-requires-clause-room
 enter_all-requires-clause-room c = λ n lt.
     subst (λ (z : Model × List Entry). HasRoom c.args.job.now.program (after c.args.job.now.program c.args.job.now.readings z.0 (take n z.1)))
     (λ i. (sym c.loop-charge.invariant i, sym (c.as_slice.ensures ∙ ap entries_of c.charge-item.is) i))
-    (charge_room c.args.charges.now c.loop-charge.charge-index c.charge-item.result c.loop-charge-test.true c.args.job.now c.requires.legal c.accepted.ensures.job c.requires.few n
+    (charge_room c.args.charges.now c.loop-charge.charge-index c.charge-item.result c.loop-charge-test.true c.args.job.now c.requires.legal c.in_ok-state.ensures.job c.requires.few n
     (subst (λ (l : List Entry). n < length l) (c.as_slice.ensures ∙ ap entries_of c.charge-item.is) lt))
 
 pub loop-charge-preserved : goal.loop-charge-preserved
