@@ -53,3 +53,9 @@ pub const CHARGES: usize = 4096;
 
 /// The most turns that all charges of a job list.
 pub const TURNS: u32 = 4_194_304;
+
+/// The words of a board are fewer than this.
+pub const BOARD_WORDS: u32 = 100_000;
+
+/// The most turns of a job that is run once for each of them.
+pub const SWEEP_TURNS: u32 = 8_192;
