@@ -76,57 +76,84 @@ QueuesHold program words = HoldsBelow (IsQueueRight program words) (length progr
 abbrev pub SourcesHold : Program → Memory → Type 0
 SourcesHold program words = HoldsBelow (IsSourceRight program words) (length program.sources)
 
--- the first place at which check 1 fails: the first wrong word of the first task that has one
-pub data IsFirstCodeFault (program : Program) (words : Memory) : Place → Type 0 where
-  CodeFails : (x n : ℕ) → IsFirstFault (IsTaskCode program words) (length program.tasks) x →
-      IsFirstFault (IsCodeWord program words x) (length (task_def program x).code) n → IsFirstCodeFault program words (Code x n)
+-- p is a place at which the first of so many parts fails, of which P doesn't hold; F tells at which place a part fails
+pub record IsFirstIn (P : ℕ → Type 0) (count : ℕ) (F : ℕ → Place → Type 0) (p : Place) : Type 0 where
+  pub part : ℕ
+  pub inside : part < count
+  pub before : HoldsBelow P part
+  pub fault : F part p
 
--- check 2: the first commit word
-pub data IsFirstCommitFault (program : Program) (words : Memory) : Place → Type 0 where
-  CommitFails : (t : ℕ) → IsFirstFault (IsCommitWord program words) (length program.threads) t → IsFirstCommitFault program words (Commit t)
+-- where the code of task x fails: at its first word that isn't the program's
+pub data IsCodeFault (program : Program) (words : Memory) (x : ℕ) : Place → Type 0 where
+  CodeFails : (n : ℕ) → IsFirstFault (IsCodeWord program words x) (length (task_def program x).code) n → IsCodeFault program words x (Code x n)
 
--- check 3: the first word of the first block
-pub data IsFirstBlockFault (program : Program) (words : Memory) : Place → Type 0 where
-  BlockFails : (t w : ℕ) → IsFirstFault (IsBlock program words) (length program.threads) t →
-      IsFirstFault (IsBlockWord program words t) (8 * pages_of (thread_def program t)) w → IsFirstBlockFault program words (block_place words t w)
+-- where the commit word of thread t fails
+pub data IsCommitFault (program : Program) (words : Memory) (t : ℕ) : Place → Type 0 where
+  CommitFails : ¬ IsCommitWord program words t → IsCommitFault program words t (Commit t)
 
--- check 4: of the first pipe the count in its writer's block, or else the ring word of its first item that is wrong
-pub data IsFirstPipeFault (program : Program) (words : Memory) : Place → Type 0 where
-  CountFails : (q : ℕ) → IsFirstFault (IsPipeRight program words) (length program.pipes) q →
-      ¬ IsPipeCount program words q → IsFirstPipeFault program words (block_place words (pipe_def program q).writer.0 (header.written q))
-  ItemFails : (q n : ℕ) → IsFirstFault (IsPipeRight program words) (length program.pipes) q → IsPipeCount program words q →
-      IsFirstFault (IsItemWord program words q) (written_of program words q) n → IsFirstPipeFault program words (Ring q (n % (pipe_def program q).places))
+-- where the block of thread t fails: at the first wrong word of the committed copy
+pub data IsBlockFault (program : Program) (words : Memory) (t : ℕ) : Place → Type 0 where
+  BlockFails : (w : ℕ) → IsFirstFault (IsBlockWord program words t) (8 * pages_of (thread_def program t)) w →
+      IsBlockFault program words t (block_place words t w)
 
--- check 5: the first word of the first log
-pub data IsFirstLogFault (program : Program) (words : Memory) : Place → Type 0 where
-  LogFails : (t n : ℕ) → IsFirstFault (IsLog program words) (length program.threads) t →
-      IsFirstFault (IsLogWord program words t) (committed words t header.outputs) n → IsFirstLogFault program words (Log t n)
+-- where pipe q fails: at the count in its writer's block, or else at the ring word of its first item that is wrong
+pub data IsPipeFault (program : Program) (words : Memory) (q : ℕ) : Place → Type 0 where
+  CountFails : ¬ IsPipeCount program words q → IsPipeFault program words q (block_place words (pipe_def program q).writer.0 (header.written q))
+  ItemFails : (n : ℕ) → IsPipeCount program words q → IsFirstFault (IsItemWord program words q) (written_of program words q) n →
+      IsPipeFault program words q (Ring q (n % (pipe_def program q).places))
 
--- check 6: of the first queue the slot of the first position; or else its tail, its number of finished events, the next task, the origin of its event
-pub data IsFirstQueueFault (program : Program) (words : Memory) : Place → Type 0 where
-  SlotFails : (t k : ℕ) → IsFirstFault (IsQueueRight program words) (length program.threads) t →
-      IsFirstFault (IsSlotWord program words t) (thread_def program t).queue k →
-      IsFirstQueueFault program words (Slot t ((told_released program words t + k) % (thread_def program t).queue))
-  TailFails : (t : ℕ) → IsFirstFault (IsQueueRight program words) (length program.threads) t → AreSlots program words t →
-      ¬ IsTailWord program words t → IsFirstQueueFault program words (Tail t)
-  OnlyFinishedFails : (t : ℕ) → IsFirstFault (IsQueueRight program words) (length program.threads) t → AreSlots program words t →
-      IsTailWord program words t → ¬ IsOnlyFinished program words t → IsFirstQueueFault program words (block_place words t header.finished)
-  IdleFinishedFails : (t : ℕ) → IsFirstFault (IsQueueRight program words) (length program.threads) t → AreSlots program words t →
-      IsTailWord program words t → IsOnlyFinished program words t → ¬ IsIdleFinished program words t →
-      IsFirstQueueFault program words (block_place words t header.next)
-  FirstServedFails : (t : ℕ) → IsFirstFault (IsQueueRight program words) (length program.threads) t → AreSlots program words t →
-      IsTailWord program words t → IsOnlyFinished program words t → IsIdleFinished program words t → ¬ IsFirstServed program words t →
-      IsFirstQueueFault program words (block_place words t header.origin)
+-- where the log of thread t fails: at its first wrong word
+pub data IsLogFault (program : Program) (words : Memory) (t : ℕ) : Place → Type 0 where
+  LogFails : (n : ℕ) → IsFirstFault (IsLogWord program words t) (committed words t header.outputs) n → IsLogFault program words t (Log t n)
 
--- check 7: of the first source its SRC; or else the slot of its first held event with a wrong count, or its ACK
-pub data IsFirstSourceFault (program : Program) (words : Memory) : Place → Type 0 where
-  SrcFails : (i : ℕ) → IsFirstFault (IsSourceRight program words) (length program.sources) i → ¬ IsSrcWord words i → IsFirstSourceFault program words (Src i)
-  EventFails : (i j : ℕ) → IsFirstFault (IsSourceRight program words) (length program.sources) i → IsSrcWord words i →
-      IsFirstFault (IsCountWord program words i) (length (held_for program words i)) j →
-      IsFirstSourceFault program words
+-- where the queue of thread t fails: at the slot of the first position that is wrong; or else at its tail, at the number of its finished events, at its
+-- next task, at the origin of its event
+pub data IsQueueFault (program : Program) (words : Memory) (t : ℕ) : Place → Type 0 where
+  SlotFails : (k : ℕ) → IsFirstFault (IsSlotWord program words t) (thread_def program t).queue k →
+      IsQueueFault program words t (Slot t ((told_released program words t + k) % (thread_def program t).queue))
+  TailFails : AreSlots program words t → ¬ IsTailWord program words t → IsQueueFault program words t (Tail t)
+  OnlyFinishedFails : AreSlots program words t → IsTailWord program words t → ¬ IsOnlyFinished program words t →
+      IsQueueFault program words t (block_place words t header.finished)
+  IdleFinishedFails : AreSlots program words t → IsTailWord program words t → IsOnlyFinished program words t → ¬ IsIdleFinished program words t →
+      IsQueueFault program words t (block_place words t header.next)
+  FirstServedFails : AreSlots program words t → IsTailWord program words t → IsOnlyFinished program words t → IsIdleFinished program words t →
+      ¬ IsFirstServed program words t → IsQueueFault program words t (block_place words t header.origin)
+
+-- where source i fails: at its SRC; or else at the slot of the first held event with a wrong count, at its ACK
+pub data IsSourceFault (program : Program) (words : Memory) (i : ℕ) : Place → Type 0 where
+  SrcFails : ¬ IsSrcWord words i → IsSourceFault program words i (Src i)
+  EventFails : (j : ℕ) → IsSrcWord words i → IsFirstFault (IsCountWord program words i) (length (held_for program words i)) j →
+      IsSourceFault program words i
         (Slot (source_thread program i) ((told_released program words (source_thread program i) + j) % (thread_def program (source_thread program i)).queue))
-  AckFails : (i : ℕ) → IsFirstFault (IsSourceRight program words) (length program.sources) i → IsSrcWord words i → AreCounts program words i →
-      ¬ IsAckWord program words i → IsFirstSourceFault program words (Ack i)
+  AckFails : IsSrcWord words i → AreCounts program words i → ¬ IsAckWord program words i → IsSourceFault program words i (Ack i)
+
+-- the first place at which check 1 fails
+abbrev pub IsFirstCodeFault : Program → Memory → Place → Type 0
+IsFirstCodeFault program words p = IsFirstIn (IsTaskCode program words) (length program.tasks) (IsCodeFault program words) p
+
+-- check 2
+abbrev pub IsFirstCommitFault : Program → Memory → Place → Type 0
+IsFirstCommitFault program words p = IsFirstIn (IsCommitWord program words) (length program.threads) (IsCommitFault program words) p
+
+-- check 3
+abbrev pub IsFirstBlockFault : Program → Memory → Place → Type 0
+IsFirstBlockFault program words p = IsFirstIn (IsBlock program words) (length program.threads) (IsBlockFault program words) p
+
+-- check 4
+abbrev pub IsFirstPipeFault : Program → Memory → Place → Type 0
+IsFirstPipeFault program words p = IsFirstIn (IsPipeRight program words) (length program.pipes) (IsPipeFault program words) p
+
+-- check 5
+abbrev pub IsFirstLogFault : Program → Memory → Place → Type 0
+IsFirstLogFault program words p = IsFirstIn (IsLog program words) (length program.threads) (IsLogFault program words) p
+
+-- check 6
+abbrev pub IsFirstQueueFault : Program → Memory → Place → Type 0
+IsFirstQueueFault program words p = IsFirstIn (IsQueueRight program words) (length program.threads) (IsQueueFault program words) p
+
+-- check 7
+abbrev pub IsFirstSourceFault : Program → Memory → Place → Type 0
+IsFirstSourceFault program words p = IsFirstIn (IsSourceRight program words) (length program.sources) (IsSourceFault program words) p
 
 -- The first place at which words fail to be an image of the program: that of the first check that fails.
 pub data IsFirstFailing (program : Program) (words : Memory) : Place → Type 0 where
