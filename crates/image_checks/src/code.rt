@@ -1,15 +1,17 @@
 //! Code words and commit words: the first two checks of an image.
 
-ghost use Rattle.std.specs.Prelude.{◌≡◌, ◌<◌, ◌^◌, ◌↔◌, IsTrue, length};
+ghost use Rattle.std.specs.Prelude.{◌≡◌, ◌<◌, ◌≤◌, ◌↔◌, IsTrue, length};
 ghost use Rattle.std.specs.Option.{ForSome, ForNone};
+ghost use Rattle.ink_base.specs.declared.limits.TheConstants as limits;
 ghost use Rattle.fram_words.specs.Steps.{place_of};
 ghost use Rattle.prog_check.specs.Lookup.{thread_def, task_def};
 ghost use Rattle.ink_layout.specs.Shape.{pages_of, shape_of, words_of};
 ghost use Rattle.never_cut.specs.Image.{IsCodeWord, IsCommitWord};
-ghost use Rattle.image_checks.specs.Failing.{CodeHolds, CommitWordsHold, FindsFault, IsFirstCodeFault, IsFirstCommitFault};
 ghost use Rattle.image_checks.specs.Board.{board};
+ghost use Rattle.image_checks.specs.Failing.{CodeHolds, CommitWordsHold, FindsFault, IsFirstCodeFault, IsFirstCommitFault};
 
 use fram_words::Place;
+use crate::blocks::page_count;
 use image_told::word_at;
 use ink_base::{TaskId, ThreadId};
 use ink_layout::Plan;
