@@ -2,13 +2,15 @@
 
 ghost use Rattle.std.specs.Prelude.{◌≡◌, ◌<◌, ◌^◌, ◌≤◌, ◌%◌, ◌↔◌, IsTrue, length};
 ghost use Rattle.std.specs.Option.{ForSome, ForNone};
+ghost use Rattle.fram_words.specs.Header as header;
 ghost use Rattle.fram_words.specs.Places.{Ring};
 ghost use Rattle.fram_words.specs.Steps.{place_of};
 ghost use Rattle.prog_check.specs.Lookup.{pipe_def};
-ghost use Rattle.ink_layout.specs.Shape.{shape_of, words_of};
+ghost use Rattle.ink_layout.specs.Shape.{IsOnBoard, shape_of, words_of};
 ghost use Rattle.never_cut.specs.Image.{IsItemWord, IsPipeCount, IsPipeRight, written_of};
 ghost use Rattle.image_checks.specs.Board.{board};
 ghost use Rattle.image_checks.specs.Failing.{FindsFault, IsFirstPipeFault, IsPipeFault, PipesHold};
+ghost use Rattle.image_checks.specs.Failing as failing;
 
 use crate::blocks::block_place;
 use fram_words::{Header, Place};
