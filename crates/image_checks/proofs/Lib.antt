@@ -1,0 +1,2 @@
+pub mod QueueSlots
+pub mod Tests
