@@ -1,1 +1,3 @@
 pub mod HeaderWords
+pub mod QueueSlots
+pub mod Tests

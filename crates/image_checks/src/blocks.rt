@@ -1,7 +1,6 @@
 //! The committed copies of the threads' blocks: the third check of an image.
 
-ghost use Rattle.std.specs.Prelude.{◌≡◌, ◌*◌, ◌<◌, ◌≤◌, ◌↔◌, IsTrue, length};
-ghost use Rattle.std.specs.Option.{ForSome, ForNone};
+ghost use Rattle.std.specs.Prelude.{IfNone, IfSome, ◌≡◌, ◌*◌, ◌<◌, ◌≤◌, ◌↔◌, IsTrue, length};
 ghost use Rattle.ink_base.specs.declared.limits.TheConstants as limits;
 ghost use Rattle.fram_words.specs.Header as header;
 ghost use Rattle.fram_words.specs.Steps.{place_of};
@@ -23,8 +22,8 @@ use thread_state::place_in;
 /// The first word of a thread's committed copy that isn't right.
 pub(crate) fn failing_block_word(plan: &Plan, words: &[u64]) -> Option<Place>
     requires { length words.now ≡ words_of (shape_of plan.now.accepted) }
-    ensures none { ForNone result (BlocksHold plan.now.accepted (board plan.now.accepted words.now)) }
-    ensures first { ForSome result (λ place. IsFirstBlockFault plan.now.accepted (board plan.now.accepted words.now) (place_of place)) }
+    ensures none { IfNone result (BlocksHold plan.now.accepted (board plan.now.accepted words.now)) }
+    ensures first { IfSome result (λ place. IsFirstBlockFault plan.now.accepted (board plan.now.accepted words.now) (place_of place)) }
 {
     for t in 0..plan.program().threads.len() {
         let thread = ThreadId(t as u8);

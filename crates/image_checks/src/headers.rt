@@ -1,7 +1,6 @@
 //! The words of a thread's header in an image.
 
-ghost use Rattle.std.specs.Prelude.{◌≡◌, ◌+◌, ◌<◌, ◌≤◌, ◌↔◌, IsTrue, length};
-ghost use Rattle.std.specs.Option.{ForSome, ForNone};
+ghost use Rattle.std.specs.Prelude.{IfNone, IfSome, ◌≡◌, ◌+◌, ◌<◌, ◌≤◌, ◌↔◌, IsTrue, length};
 ghost use Rattle.fram_words.specs.Header.{IsHeader, due, word_of};
 ghost use Rattle.prog_check.specs.Lookup.{thread_def};
 ghost use Rattle.ink_layout.specs.Shape.{shape_of, words_of};
@@ -17,8 +16,8 @@ use ink_layout::Plan;
 
 /// The header word of a number; none where the header has no use for it.
 pub(crate) fn header_at(word: u32) -> Option<Header>
-    ensures some { ForSome result (λ named. IsHeader named × (word_of named ≡ word)) }
-    ensures none { ForNone result (due 8 ≤ word) }
+    ensures some { IfSome result (λ named. IsHeader named × (word_of named ≡ word)) }
+    ensures none { IfNone result (due 8 ≤ word) }
 {
     match word {
         0 => Some(Header::Stamp),

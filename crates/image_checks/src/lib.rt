@@ -8,7 +8,8 @@ mod headers;
 mod logs;
 mod owners;
 mod pipes;
-
+mod queues;
+mod sources;
 
 #[cfg(test)]
 mod tests {
