@@ -1,3 +1,5 @@
 pub mod HeaderWords
+pub mod LogWords
+pub mod Origins
 pub mod QueueSlots
 pub mod Tests
