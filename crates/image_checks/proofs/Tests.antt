@@ -8,7 +8,3 @@ granted test = test.0 refl
 -- it wasn't
 pub refused : {P : Type 0} → (IsTrue false ↔ P) → ¬ P
 refused test holds = let clash : false ≡ true = test.1 holds in absurd (let never : ⊥ = cc in never)
-
--- false isn't true
-pub never_true : {P : Type 0} → false ≡ true → P
-never_true clash = absurd (let never : ⊥ = cc in never)
