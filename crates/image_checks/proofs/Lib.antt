@@ -1,2 +1,3 @@
 pub mod QueueSlots
+pub mod FirstEvents
 pub mod Tests
