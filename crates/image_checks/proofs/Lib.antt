@@ -1,3 +1,4 @@
+pub mod HeaderWords
 pub mod QueueSlots
 pub mod FirstEvents
 pub mod Tests
