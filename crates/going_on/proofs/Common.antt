@@ -1,5 +1,5 @@
 -- The names that several proofs of this crate cite, passed on from one place. Declares nothing.
-pub use Rattle.std.proofs.Common.{All, Bool, List, None, Option, Some, [], ap, append-nil, append_assoc, arith, cond, drop, false, get_or, get_or-append-add, get_or-drop, get_or-set_other, get_or-set_same, if◌then◌else◌, inl, inr, length, length-append, length-drop, length-set, map, refl, replicate, set, slice_index, slice_index_or, subst, suc, sum_by, sym, take, take_all, take_at, true, zero, ℕ, ◌%◌, ◌++◌, ◌+◌, ◌-◌, ◌<◌, ◌==◌, ◌^◌, ◌∙◌, ◌∷◌, ◌≡◌, ◌≢◌, ◌≤◌, ◌⊎◌}
+pub use Rattle.std.proofs.Common.{All, Bool, eq-eqb, eqb-true, filter, List, None, Option, Some, [], ap, append-nil, append_assoc, arith, cond, drop, false, get_or, get_or-append-add, get_or-drop, get_or-set_other, get_or-set_same, if◌then◌else◌, inl, inr, length, length-append, length-drop, length-set, map, refl, replicate, set, slice_index, slice_index_or, subst, suc, sum_by, sym, take, take_all, take_at, true, zero, ℕ, ◌%◌, ◌++◌, ◌+◌, ◌-◌, ◌<◌, ◌==◌, ◌^◌, ◌∙◌, ◌∷◌, ◌≡◌, ◌≢◌, ◌≤◌, ◌⊎◌}
 pub use Rattle.std.proofs.lemmas.Bool.{cases_eq, cases_lt}
 pub use Rattle.std.proofs.lemmas.List.{ext_get_or, get_or-append_right, get_or-map, get_or-replicate, get_or_append_left, get_or_past, length-map, length-replicate, map-set, replicate-append-replicate, set-append_left, set-append_right}
 pub use Rattle.std.proofs.lemmas.List.Elements.{All-append, All-drop, All-get_or, All-head, All-tail, All-take}
@@ -40,4 +40,5 @@ pub use Rattle.kernel_core.specs.Record.{ChargeRecord, begun, charge_of, journal
 pub use Rattle.kernel_core.specs.Stands.{BoardStands, memory, state}
 pub use Rattle.kernel_core.specs.kept.Holds.{HasSize, Holds}
 pub use Rattle.going_on.specs.Divided.{Division, IsDivided, behind_settled, first_part, first_run, second_after, second_part, second_run, whole_after, whole_run}
-pub use Rattle.going_on.specs.GoesOn.{AreJobs, EndsAsWhole, GoesAsWhole, IsAsWhole, IsWhole, StandsAsWhole, StartsFromWhole, unmarked, without_scan}
+pub use Rattle.going_on.specs.GoesOn.{AreJobs, EndsAsWhole, GoesAsWhole, IsAsWhole, IsWhole, StandsAsWhole, StartsFromWhole}
+pub use Rattle.going_on.specs.Lost.{unmarked, without_scan}

@@ -29,11 +29,13 @@ first_is x y xs ys is = ap (λ (l : List Output). get_or l 0 x) is
 -- the first of a thread's outputs is among all
 found : (t : ℕ) (xs : List Output) (o : Output) (rest : List Output) → outputs_in t xs ≡ o ∷ rest → (j : ℕ) × (j < length xs) × ((d : Output) → get_or xs j d ≡ o)
 found t [] o rest is = absurd (not_nil o rest is)
-found t (x ∷ xs) o rest is = by_thread (x.thread.0 == t) is
+found t (x ∷ xs) o rest is = by_thread (x.thread.0 == t) is (found t xs o rest)
   where
-    by_thread : (b : Bool) → cond b (x ∷ outputs_in t xs) (outputs_in t xs) ≡ o ∷ rest → (j : ℕ) × (j < length (x ∷ xs)) × ((d : Output) → get_or (x ∷ xs) j d ≡ o)
-    by_thread true is = (0, omega arith, λ d. first_is x o (outputs_in t xs) rest is)
-    by_thread false is = let later = found t xs o rest is in (suc later.0, (let lt = later.1 in omega arith), later.2)
+    by_thread : (b : Bool) → cond b (x ∷ outputs_in t xs) (outputs_in t xs) ≡ o ∷ rest →
+        (outputs_in t xs ≡ o ∷ rest → (j : ℕ) × (j < length xs) × ((d : Output) → get_or xs j d ≡ o)) →
+        (j : ℕ) × (j < length (x ∷ xs)) × ((d : Output) → get_or (x ∷ xs) j d ≡ o)
+    by_thread true is later = (0, omega arith, λ d. first_is x o (outputs_in t xs) rest is)
+    by_thread false is later = let at = later is in (suc at.0, (let lt = at.1 in omega arith), at.2)
 
 -- without the first ones they are told as well
 rest_is : (x : Output) (xs ys : List Output) (t : ℕ) → outputs_in t (x ∷ xs) ≡ outputs_in t (x ∷ ys) → outputs_in t xs ≡ outputs_in t ys

@@ -1,5 +1,5 @@
 -- Two states that the same words tell have the same parts.
-use Rattle.going_on.proofs.Common.{◌≡◌, ◌⊎◌, inl, inr, ℕ, suc, ◌+◌, ◌-◌, ◌%◌, ◌^◌, ◌<◌, ◌≤◌, ◌==◌, List, length, get_or, Option, Some, None, refl, sym, ap, ◌∙◌, subst, arith, slice_index, All, cases_lt, ext_get_or, get_or-map, eqb-true, Program, Model, thread_of}
+use Rattle.going_on.proofs.Common.{◌≡◌, ◌⊎◌, inl, inr, ℕ, suc, ◌+◌, ◌-◌, ◌%◌, ◌^◌, ◌<◌, ◌≤◌, ◌==◌, true, List, [], ◌∷◌, length, get_or, Option, Some, None, refl, sym, ap, ◌∙◌, subst, arith, slice_index, All, cases_lt, ext_get_or, get_or-map, eqb-true, Program, Model, thread_of}
 use Rattle.std.proofs.lemmas.List.Elements.{All-filter, filter_passes}
 use Rattle.std.specs.Option.{ForSome, ForNone}
 use Rattle.ink_base.specs.declared.ids.TaskId.{TaskId}
@@ -53,6 +53,11 @@ same_output a b is small low own =
     let stamp : a.stamp ≡ b.stamp = omega arith in
     let value : a.value ≡ b.value = omega arith in
     λ k. record { stamp = stamp k; thread = record { 0 = own k }; value = value k }
+
+-- no output is of a thread past the last
+nothing_of : (program : Program) (t : ℕ) → length program.threads ≤ t → (l : List Output) → All (IsOutputOf program) l → All (λ (o : Output). (o.thread.0 == t) ≡ true) l → l ≡ []
+nothing_of program t past [] known of = refl
+nothing_of program t past (o ∷ l) known of = absurd (let low = (known 0 o (omega arith)).0 in let same = eqb-true _ _ (of 0 o (omega arith)) in omega arith)
 
 module _ (program : Program) (words : Memory) (a b : Model) (accepted : IsAccepted program) (one : IsTold program words a) (two : IsTold program words b) where
   module _ (t : ℕ) (known : t < length program.threads) where
@@ -129,7 +134,7 @@ module _ (program : Program) (words : Memory) (a b : Model) (accepted : IsAccept
             let y = output_is b two n d (omega (arith, long)) in
             same_output (get_or (outputs_of a t) n d) (get_or (outputs_of b t) n d) (sym x.0 ∙ y.0) x.1 y.1 (x.2 ∙ sym y.2))
 
-  threads_are : ((t : ℕ) → t < length program.threads → queue_of (thread_of a t) ≡ queue_of (thread_of b t)) → a.threads ≡ b.threads
+  pub threads_are : ((t : ℕ) → t < length program.threads → queue_of (thread_of a t) ≡ queue_of (thread_of b t)) → a.threads ≡ b.threads
   threads_are queues =
       ext_get_or no_thread a.threads b.threads (one.shape.threads ∙ sym two.shape.threads) (λ t lt. let known : t < length program.threads = omega (arith, one.shape.threads) in thread_is t known (queues t known))
 
@@ -161,10 +166,10 @@ module _ (program : Program) (words : Memory) (a b : Model) (accepted : IsAccept
       let period = sym (period_count program words a t j accepted owner.thread one.private known refl) ∙ period_count program words b t j accepted owner.thread two.private known refl in
       λ k. record { due = due k; period = period k }
 
-  pipes_are : a.pipes ≡ b.pipes
+  pub pipes_are : a.pipes ≡ b.pipes
   pipes_are = ext_get_or no_pipe a.pipes b.pipes (one.shape.pipes ∙ sym two.shape.pipes) (λ q lt. pipe_is q (omega (arith, one.shape.pipes)))
 
-  timers_are : a.timers ≡ b.timers
+  pub timers_are : a.timers ≡ b.timers
   timers_are = ext_get_or no_timer a.timers b.timers (one.shape.timers ∙ sym two.shape.timers) (λ j lt. timer_is j (omega (arith, one.shape.timers)))
 
   -- no thread but the program's puts out anything
@@ -175,13 +180,10 @@ module _ (program : Program) (words : Memory) (a b : Model) (accepted : IsAccept
         | inr past ↦ none a one t past ∙ sym (none b two t past)
       ]
     where
-      none : (m : Model) → IsTold program words m → (t : ℕ) → length program.threads ≤ t → outputs_in t m.outputs ≡ Rattle.std.proofs.Common.[]
-      none m told t past = by_length (outputs_in t m.outputs) refl
-        where
-          by_length : (l : List Output) → outputs_in t m.outputs ≡ l → l ≡ Rattle.std.proofs.Common.[]
-          by_length l is = ?
+      none : (m : Model) → IsTold program words m → (t : ℕ) → length program.threads ≤ t → outputs_in t m.outputs ≡ []
+      none m told t past = nothing_of program t past (outputs_in t m.outputs) (All-filter (λ (o : Output). o.thread.0 == t) (IsOutputOf program) m.outputs told.outputs) (filter_passes (λ (o : Output). o.thread.0 == t) m.outputs)
 
-  outputs_are : AreOwn b.outputs → a.outputs ≡ b.outputs
+  pub outputs_are : AreOwn b.outputs → a.outputs ≡ b.outputs
   outputs_are own = same_outputs a.outputs b.outputs one.rise two.rise own outputs_told
 
 -- the number of commits is the greatest stamp

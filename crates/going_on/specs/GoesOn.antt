@@ -1,9 +1,7 @@
 -- What the two runs of a divided job are to the run of the whole.
-use Rattle.std.specs.Prelude.{◌≡◌, ℕ, ◌<◌, ◌≤◌, false, List, ◌++◌, length, map, None}
+use Rattle.std.specs.Prelude.{◌≡◌, ℕ, ◌<◌, ◌≤◌, List, ◌++◌, length}
 use Rattle.ink_base.specs.declared.actor.Actor.{Actor}
 use Rattle.job_parts.specs.Job.{IsJob, words_in}
-use Rattle.never_cut.specs.declared.model.Model.{Model}
-use Rattle.never_cut.specs.declared.source_model.SourceModel.{SourceModel}
 use Rattle.never_cut.specs.Images.{AreListed}
 use Rattle.never_cut.specs.Worn.{IsWorn}
 use Rattle.kernel_core.specs.Board.{Board, journal}
@@ -11,6 +9,7 @@ use Rattle.kernel_core.specs.Core.{setup_of}
 use Rattle.kernel_core.specs.Made.{made_by}
 use Rattle.kernel_core.specs.Moves.{IsActor}
 use Rattle.kernel_core.specs.Stands.{state}
+use Rattle.going_on.specs.Lost.{without_scan}
 use Rattle.going_on.specs.Divided.{Division, IsDivided, first_part, second_part, whole_run, first_run, second_run, whole_after, second_after}
 
 -- the whole ends with the second run's words, and the first run's records and journal are followed by the second's
@@ -33,14 +32,6 @@ pub record IsAsWhole (d : Division) (n : ℕ) : Type 0 where
 -- so it is after any number of them
 abbrev pub GoesAsWhole : Type 0
 GoesAsWhole = (d : Division) → IsDivided d → (n : ℕ) → IsAsWhole d n
-
--- a source without the mark of a refused reading
-abbrev pub unmarked : SourceModel → SourceModel
-unmarked s = record s { refused = false }
-
--- a state without what a cut loses of it: its scan, and the marks of refused readings
-abbrev pub without_scan : Model → Model
-without_scan m = record m { sources = map unmarked m.sources; scan = None }
 
 -- the second part begins with the state that the whole has there, without what a cut loses
 abbrev pub StartsFromWhole : Type 0
