@@ -50,7 +50,7 @@ rises_after program readings m [] i = omega arith
 rises_after program readings m (e ∷ entries) i = let one = rises program readings m e i in let more = rises_after program readings (effect program readings m e) entries i in omega arith
 
 -- an element's image
-image_at : (xs : List SourceModel) (i : ℕ) → get_or (map unmarked xs) i no_source ≡ unmarked (get_or xs i no_source)
+pub image_at : (xs : List SourceModel) (i : ℕ) → get_or (map unmarked xs) i no_source ≡ unmarked (get_or xs i no_source)
 image_at [] i = refl
 image_at (x ∷ xs) zero = refl
 image_at (x ∷ xs) (suc i) = image_at xs i
