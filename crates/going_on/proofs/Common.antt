@@ -39,6 +39,6 @@ pub use Rattle.kernel_core.specs.Moves.{AreMoves, IsActor, IsInRange, ticks, tur
 pub use Rattle.kernel_core.specs.Record.{ChargeRecord, begun, charge_of, journal_of, not_begun, with_kernel, with_source, with_tick}
 pub use Rattle.kernel_core.specs.Stands.{BoardStands, memory, state}
 pub use Rattle.kernel_core.specs.kept.Holds.{HasSize, Holds}
-pub use Rattle.going_on.specs.Divided.{Division, IsDivided, behind_settled, first_part, first_run, second_after, second_part, second_run, whole_after, whole_run}
-pub use Rattle.going_on.specs.GoesOn.{AreJobs, EndsAsWhole, GoesAsWhole, IsAsWhole, IsWhole, StandsAsWhole, StartsFromWhole}
+pub use Rattle.going_on.specs.Divided.{Division, IsDivided, IsSplit, all_behind, behind_settled, divided, first_part, first_run, second_after, second_part, second_run, state_left, whole_after, whole_run}
+pub use Rattle.going_on.specs.GoesOn.{AreJobs, EndsAsWhole, EveryJobDivides, GoesAsWhole, IsAsWhole, IsWhole, StandsAsWhole, StartsFromWhole}
 pub use Rattle.going_on.specs.Lost.{unmarked, without_scan}

@@ -9,3 +9,4 @@ pub mod Wholes
 pub mod Starts
 pub mod Ends
 pub mod States
+pub mod Divides

@@ -1,7 +1,8 @@
 -- What the two runs of a divided job are to the run of the whole.
 use Rattle.std.specs.Prelude.{◌≡◌, ℕ, ◌<◌, ◌≤◌, List, ◌++◌, length}
 use Rattle.ink_base.specs.declared.actor.Actor.{Actor}
-use Rattle.job_parts.specs.Job.{IsJob, words_in}
+use Rattle.job_parts.specs.Job.{AreFirstWords, IsJob, JobParts, words_in}
+use Rattle.job_parts.specs.declared.charge.Charge.{Charge}
 use Rattle.never_cut.specs.Images.{AreListed}
 use Rattle.never_cut.specs.Worn.{IsWorn}
 use Rattle.kernel_core.specs.Board.{Board, journal}
@@ -10,13 +11,19 @@ use Rattle.kernel_core.specs.Made.{made_by}
 use Rattle.kernel_core.specs.Moves.{IsActor}
 use Rattle.kernel_core.specs.Stands.{state}
 use Rattle.going_on.specs.Lost.{without_scan}
-use Rattle.going_on.specs.Divided.{Division, IsDivided, first_part, second_part, whole_run, first_run, second_run, whole_after, second_after}
+use Rattle.going_on.specs.Divided.{Division, IsDivided, divided, first_part, second_part, whole_run, first_run, second_run, whole_after, second_after}
 
 -- the whole ends with the second run's words, and the first run's records and journal are followed by the second's
 pub record IsWhole (first second whole : Board) : Type 0 where
   pub words : second.words ≡ whole.words
   pub records : whole.charges ≡ first.charges ++ second.charges
   pub journal_is : journal whole ≡ journal first ++ journal second
+
+-- each job can be divided behind any of its charges
+abbrev pub EveryJobDivides : Type 0
+EveryJobDivides =
+    (job : JobParts) (words : List ℕ) (front back : List Charge) → IsJob job → AreFirstWords job.program job.start words → job.charges ≡ front ++ back →
+    IsDivided (divided job words front back)
 
 -- every divided job's runs end as the run of the whole
 abbrev pub EndsAsWhole : Type 0
