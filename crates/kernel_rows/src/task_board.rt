@@ -7,7 +7,8 @@ ghost use Rattle.fram_words.specs.Held.{FitsOrigin};
 ghost use Rattle.task_run.specs.Fits.{FitsChain, FitsExecution, FitsPhase, FitsSending, FitsSetting, FitsTask, FitsWord};
 
 use crate::fixtures::plan;
-use fram_words::{Access, Fram, ThreadPlace};
+use fram_words::{Access, Fram, Header, ThreadPlace};
+use ink_base::limits::{BOARD_WORDS, INSTRUCTIONS, PIPES, QUEUE_PLACES, TASK_LIMIT, TIMERS};
 use ink_base::{Addr, Origin, TaskId};
 use ink_layout::{KernelPoint, Pick, Plan, first_image};
 use std::alloc::Global;
@@ -20,8 +21,8 @@ fn is_executing(program: &Program, x: &Execution) -> bool
 {
     match program.tasks.as_slice().get(x.task.0 as usize) {
         Some(task) => (x.at as usize) < task.code.len()
-            && x.at < 4096
-            && x.executed < 4096
+            && (x.at as usize) < INSTRUCTIONS
+            && x.executed < TASK_LIMIT as u32
             && x.executed < task.limit as u32,
         None => false,
     }
@@ -37,14 +38,15 @@ fn is_origin(origin: Origin) -> bool
     }
 }
 
-// The number of the event's pipe or timer is below 8.
+// The event is of a pipe or a timer, whose number is within the limits.
 fn is_device(origin: Origin) -> bool
-    ensures { IsTrue result → number_of origin < 8 }
+    ensures pipe { IsTrue result → number_of origin < PIPES }
+    ensures timer { IsTrue result → number_of origin < TIMERS }
 {
     match origin {
-        Origin::Source { source, .. } => source.0 < 8,
-        Origin::Pipe { pipe, .. } => pipe.0 < 8,
-        Origin::Timer { timer, .. } => timer.0 < 8,
+        Origin::Source { .. } => false,
+        Origin::Pipe { pipe, .. } => (pipe.0 as usize) < PIPES,
+        Origin::Timer { timer, .. } => (timer.0 as usize) < TIMERS,
     }
 }
 
@@ -121,7 +123,7 @@ fn can_want(program: &Program, machine: &TaskMachine) -> bool
         .as_slice()
         .get(machine.pick.thread.0 as usize)
     {
-        Some(def) => def.queue <= 32
+        Some(def) => def.queue <= QUEUE_PLACES
             && machine.pick.position < 1000
             && machine.pick.time < 1000
             && machine.stamp < 1000
@@ -198,7 +200,7 @@ fn word_at(fram: &Fram, addr: Addr) -> Option<u64> {
 // A word of the committed copy of a thread's header.
 fn header(place: &ThreadPlace, fram: &Fram, word: u32) -> Option<u64> {
     let mask = word_at(fram, place.commit)?;
-    if word < 48 && place.first < 100000 {
+    if word < Header::WORDS && place.first < BOARD_WORDS {
         let copy = (mask >> (word / 8) & 1) as u32;
         word_at(fram, place.first + 16 * (word / 8) + 8 * copy + word % 8)
     } else {

@@ -1,5 +1,6 @@
 -- Words that stand for a sound state, and in which the sources keep their numbers, are an image.
 use Rattle.never_cut.proofs.Common.{◌≡◌, ◌⊎◌, inl, inr, ℕ, ◌+◌, ◌-◌, ◌%◌, ◌^◌, ◌<◌, ◌≤◌, ◌==◌, Bool, true, false, List, length, take, get_or, Option, Some, None, refl, sym, ap, ◌∙◌, subst, arith, if◌then◌else◌, slice_index, All, eqb-true, le-ltb, ForSome, cases_Bool, cases_lt, get_or_past, get_or-map, All-filter, filter_passes, TaskId, Event, Origin, Output, Program, Memory, Log, Ring, Tail, Slot, Ack, Src, next_word, origin_word, origin_of, due_word, output_word, origin_of-origin_word, committed, empty_word, Queue, published, event_at, event_source, event_count, StandsSource, IsAccepted, thread_def, pipe_def, source_thread, Model, thread_of, pipe_of, timer_of, source_of, queue_of, source_in, outputs_of, Readings, flag, saved, thread_words, owns_timer, Stands, IsOwnOrigin, IsTaskOf, IsQueued, IsServed, IsChain, IsSound, Lasts, told_held, told_queue, told_source, is_one_more, HasChain, IsChainOrigin, IsTakenLast, IsChainValue, IsBlockWord, IsPipeRight, stamp_at, IsLogWord, IsServedFirst, IsQueueRight, own_events, held_for, IsSourceRight, taken_of, written_of, KeepTheirNumbers, EveryStateIsImage}
+use Rattle.ink_base.specs.declared.limits.TheConstants as limits
 use Rattle.push_core.specs.Queue.{IsFinishing}
 use Rattle.std.proofs.lemmas.List.Kept.{IsNonDecreasingBy-filter}
 use Rattle.ink_base.specs.declared.event.Origin.TheVariants as origins
@@ -84,16 +85,16 @@ module _ (program : Program) (readings : Readings) (words : Memory) (m : Model) 
     abbrev block : (w : ℕ) → committed words t w ≡ slice_index (thread_words (saved program m t) (stands.private.threads t known).stamp (stands.private.threads t known).origin (stands.private.threads t known).value) w
     block = (stands.private.threads t known).block
 
-    written_is : (q : ℕ) → q < 8 → committed words t (header.written q) ≡ (saved program m t).written q
+    written_is : (q : ℕ) → q < limits.PIPES → committed words t (header.written q) ≡ (saved program m t).written q
     written_is q lt = block (header.written q) ∙ written_at (saved program m t) _ _ _ q lt
 
-    taken_is : (q : ℕ) → q < 8 → committed words t (header.taken q) ≡ (saved program m t).taken q
+    taken_is : (q : ℕ) → q < limits.PIPES → committed words t (header.taken q) ≡ (saved program m t).taken q
     taken_is q lt = block (header.taken q) ∙ taken_at (saved program m t) _ _ _ q lt
 
-    due_is : (j : ℕ) → j < 8 → committed words t (header.due j) ≡ (saved program m t).due j
+    due_is : (j : ℕ) → j < limits.TIMERS → committed words t (header.due j) ≡ (saved program m t).due j
     due_is j lt = block (header.due j) ∙ due_at (saved program m t) _ _ _ j lt
 
-    period_is : (j : ℕ) → j < 8 → committed words t (header.period j) ≡ (saved program m t).period j
+    period_is : (j : ℕ) → j < limits.TIMERS → committed words t (header.period j) ≡ (saved program m t).period j
     period_is j lt = block (header.period j) ∙ period_at (saved program m t) _ _ _ j lt
 
     -- behind the header stands the state
