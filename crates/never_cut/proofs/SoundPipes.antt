@@ -4,7 +4,7 @@ use Rattle.std.proofs.lemmas.List.FromFn.{get_or-enumerate_from, length-enumerat
 use Rattle.ink_base.specs.declared.event.Origin.TheVariants as origins
 use Rattle.never_cut.proofs.Threads.{kept-at}
 use Rattle.never_cut.proofs.Values.{last_below}
-use Rattle.never_cut.proofs.TaskRuns.{IsRightItem}
+use Rattle.never_cut.proofs.RightActs.{IsRightItem}
 use Rattle.never_cut.proofs.SoundParts.{IsSoundPipeAt, PipesSound, taken_in}
 
 abbrev items_in : List PipeModel → ℕ → ℕ
