@@ -55,3 +55,4 @@ pub mod ToldQueues
 pub mod BlockImages
 pub mod StatesImage
 pub mod Devices
+pub mod Loads

@@ -18,7 +18,8 @@ where_true : (program : Program) (t size : ℕ) (room : Room) (b : Bool) (x y : 
 where_true program t size room true x y h k = h refl
 where_true program t size room false x y h k = k
 
-abbrev counted : Bool → ℕ
+-- one for an item that is sent to the pipe
+abbrev pub counted : Bool → ℕ
 counted b = cond b 1 0
 
 -- how many items a pipe has got after one more

@@ -4,10 +4,7 @@ use Rattle.fram_words.specs.Header as header
 use Rattle.never_cut.specs.Ranges.{IsAnswerTo}
 use Rattle.task_run.proofs.Accesses.{machine_at}
 use Rattle.task_run.proofs.Words.{total_low, total_high}
-
--- a word of a block by its page and its number there
-whole_word : (w : ℕ) → 8 * (w / 8) + w % 8 ≡ w
-whole_word w = omega arith
+use Rattle.fram_words.proofs.Addresses.{whole_word}
 
 -- a word in the range of its place is one that the phase takes
 pub task_word : (program : Program) (pick : Pick) (stamp : ℕ) (b : Buffer) (ending : Ending) (e : Execution) (phase : Phase) (word : ℕ) → IsAccepted program →
