@@ -1,5 +1,6 @@
 -- What a call needs that is one step on one word.
 use Rattle.event_queue.proofs.Common.{◌≡◌, ℕ, ◌-◌, ◌<◌, ◌≤◌, cond, Bool, true, List, [], ◌∷◌, length, set, slice_index, refl, sym, ap, ◌∙◌, subst, arith, le_refl, nat_tests, some, get_elem?, State, Act, keeps, Valid, stepped, homes_after, carried_after, Call, AddClock, Role, Kernel, Clock, Source, Lay, Told, View, Becomes, with_source, with_kernel, with_clock, Entry, Place, Tail, Slot, address, has_place, word_at, released_of, sum_of, places_of, sole, Tells, Made, calls_by, Kept, Queues}
+use Rattle.ink_base.specs.declared.limits.TheConstants as limits
 use Rattle.event_queue.proofs.Basics.{put_here, set_same}
 use Rattle.event_queue.proofs.Places.{Becomes-store, address_below}
 use Rattle.event_queue.proofs.Roles.{once_step}

@@ -1,5 +1,6 @@
 -- The calls of a source: each is one step that the rule allows.
 use Rattle.event_queue.proofs.Common.{◌≡◌, ◌≢◌, inl, inr, ℕ, ◌+◌, ◌-◌, ◌%◌, ◌^◌, ◌<◌, ◌≤◌, ◌==◌, max, cond, Bool, false, List, [], ◌∷◌, ◌++◌, length, set, slice_index, refl, sym, ap, ◌∙◌, subst, arith, eq-eqb, ne_eqb, length-append, length-set, mod-lt, le_refl, eqb, cases_eq, some, either, keeps, Allows, exchanged, empty_word, slot_in, Call, LoadTail, LoadSlot, Publish, HelpTail, Source, Lay, Told, View, Becomes, put, with_source, Entry, full, Tail, Slot, address, word_at, won, knows_of, mine_of, next_of, tail_of, published_of, released_by_of, published_by, released_by, places_of, queue_of, sole, Tells, Made, found, Kept, Queues}
+use Rattle.ink_base.specs.declared.limits.TheConstants as limits
 use Rattle.event_queue.proofs.Basics.{put_here, put_else, below}
 use Rattle.event_queue.proofs.Sources.{source_more, own_entry}
 use Rattle.event_queue.proofs.Moves.{kept_call, kept_tail, kept_push}
@@ -93,7 +94,7 @@ allows_help_tail key lay n id i p calls told own lt s q len at lim =
 abbrev pub pushed_word : ℕ → ℕ → List Call → ℕ → ℕ
 pushed_word p i calls x = full p (own_entry i (length (mine_of calls)) 0 x)
 
-pub allows_publish : (key lay : Lay) (n id i p r x : ℕ) (calls : List Call) (told : Told) → Own i lay → p ≤ tail_of calls → next_of calls ≤ r → r < 65535 → x < 2 ^ 32
+pub allows_publish : (key lay : Lay) (n id i p r x : ℕ) (calls : List Call) (told : Told) → Own i lay → p ≤ tail_of calls → next_of calls ≤ r → r < limits.READINGS → x < 2 ^ 32
     → Allows (Queues key) n id (sole lay (Source i) calls told, []) (address lay (Slot (queue_of lay i) (p % places_of lay (queue_of lay i)))) (λ y. either (eqb y (empty_word p)) (pushed_word p i calls x) y)
     (Made (found (Publish p r x 0)) (sole lay (Source i) calls told, []))
 allows_publish key lay n id i p r x calls told own seen next limit fits s q len at lim =

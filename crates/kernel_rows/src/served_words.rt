@@ -4,8 +4,9 @@ ghost use Rattle.std.specs.Prelude.{◌<◌};
 
 use crate::fixtures::plan;
 use crate::task_board::numbers;
-use fram_words::{Fram, ThreadPlace};
+use fram_words::{Fram, Header, ThreadPlace};
 use ink_base::Addr;
+use ink_base::limits::BOARD_WORDS;
 use ink_layout::{Pick, Plan, first_image};
 use std::alloc::Global;
 
@@ -21,7 +22,7 @@ fn word_at(fram: &Fram, addr: Addr) -> Option<u64> {
 // A word of the committed copy of a thread's header.
 fn header(place: &ThreadPlace, fram: &Fram, word: u32) -> Option<u64> {
     let mask = word_at(fram, place.commit)?;
-    if word < 48 && place.first < 100000 {
+    if word < Header::WORDS && place.first < BOARD_WORDS {
         let copy = (mask >> (word / 8) & 1) as u32;
         word_at(fram, place.first + 16 * (word / 8) + 8 * copy + word % 8)
     } else {

@@ -8,6 +8,7 @@ ghost use Rattle.task_run.specs.Fits.{FitsChain, FitsExecution, FitsPhase, FitsS
 
 use crate::fixtures::plan;
 use fram_words::{Access, Fram};
+use ink_base::limits::{INSTRUCTIONS, PIPES, QUEUE_PLACES, TASK_LIMIT, TIMERS};
 use ink_base::{Origin, TaskId};
 use ink_layout::{KernelPoint, Pick, Plan};
 use task_isa::{Program, ThreadDef};
@@ -19,8 +20,8 @@ fn is_executing(program: &Program, x: &Execution) -> bool
 {
     match program.tasks.as_slice().get(x.task.0 as usize) {
         Some(task) => (x.at as usize) < task.code.len()
-            && x.at < 4096
-            && x.executed < 4096
+            && (x.at as usize) < INSTRUCTIONS
+            && x.executed < TASK_LIMIT as u32
             && x.executed < task.limit as u32,
         None => false,
     }
@@ -36,14 +37,15 @@ fn is_origin(origin: Origin) -> bool
     }
 }
 
-// The number of the event's pipe or timer is below 8.
+// The event is of a pipe or a timer, whose number is within the limits.
 fn is_device(origin: Origin) -> bool
-    ensures { IsTrue result → number_of origin < 8 }
+    ensures pipe { IsTrue result → number_of origin < PIPES }
+    ensures timer { IsTrue result → number_of origin < TIMERS }
 {
     match origin {
-        Origin::Source { source, .. } => source.0 < 8,
-        Origin::Pipe { pipe, .. } => pipe.0 < 8,
-        Origin::Timer { timer, .. } => timer.0 < 8,
+        Origin::Source { .. } => false,
+        Origin::Pipe { pipe, .. } => (pipe.0 as usize) < PIPES,
+        Origin::Timer { timer, .. } => (timer.0 as usize) < TIMERS,
     }
 }
 
@@ -120,7 +122,7 @@ fn can_want(program: &Program, machine: &TaskMachine) -> bool
         .as_slice()
         .get(machine.pick.thread.0 as usize)
     {
-        Some(def) => def.queue <= 32
+        Some(def) => def.queue <= QUEUE_PLACES
             && machine.pick.position < 1000
             && machine.pick.time < 1000
             && machine.stamp < 1000

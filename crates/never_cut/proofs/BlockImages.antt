@@ -1,5 +1,6 @@
 -- The words of a thread's block, where words stand for a sound state: each of them is one of an image, and a running chain has the first held event.
 use Rattle.never_cut.proofs.Common.{◌≡◌, inl, inr, ℕ, ◌+◌, ◌-◌, ◌^◌, ◌<◌, ◌≤◌, Bool, true, false, List, length, Option, Some, None, refl, sym, ap, ◌∙◌, subst, arith, if◌then◌else◌, slice_index, le-ltb, ForSome, cases_lt, get_or_past, TaskId, Event, Origin, Program, Memory, next_word, origin_word, origin_of, due_word, origin_of-origin_word, committed, IsAccepted, Model, thread_of, pipe_of, timer_of, queue_of, Readings, saved, thread_words, owns_timer, Stands, IsOwnOrigin, IsTaskOf, IsQueued, IsServed, IsChain, IsSound, Lasts, told_held, told_queue, HasChain, IsChainOrigin, IsTakenLast, IsChainValue, IsBlockWord, IsServedFirst}
+use Rattle.ink_base.specs.declared.limits.TheConstants as limits
 use Rattle.ink_base.specs.declared.event.Origin.TheVariants as origins
 use Rattle.fram_words.specs.Header as header
 use Rattle.never_cut.proofs.Blocks.{running_word, first_word, outputs_word, event_words, taken_count, written_at, taken_at, due_at, period_at, state_at, unused_at}
@@ -81,16 +82,16 @@ module _ (program : Program) (readings : Readings) (words : Memory) (m : Model) 
     abbrev block : (w : ℕ) → committed words t w ≡ slice_index (thread_words (saved program m t) (stands.private.threads t known).stamp (stands.private.threads t known).origin (stands.private.threads t known).value) w
     block = (stands.private.threads t known).block
 
-    written_is : (q : ℕ) → q < 8 → committed words t (header.written q) ≡ (saved program m t).written q
+    written_is : (q : ℕ) → q < limits.PIPES → committed words t (header.written q) ≡ (saved program m t).written q
     written_is q lt = block (header.written q) ∙ written_at (saved program m t) _ _ _ q lt
 
-    taken_is : (q : ℕ) → q < 8 → committed words t (header.taken q) ≡ (saved program m t).taken q
+    taken_is : (q : ℕ) → q < limits.PIPES → committed words t (header.taken q) ≡ (saved program m t).taken q
     taken_is q lt = block (header.taken q) ∙ taken_at (saved program m t) _ _ _ q lt
 
-    due_is : (j : ℕ) → j < 8 → committed words t (header.due j) ≡ (saved program m t).due j
+    due_is : (j : ℕ) → j < limits.TIMERS → committed words t (header.due j) ≡ (saved program m t).due j
     due_is j lt = block (header.due j) ∙ due_at (saved program m t) _ _ _ j lt
 
-    period_is : (j : ℕ) → j < 8 → committed words t (header.period j) ≡ (saved program m t).period j
+    period_is : (j : ℕ) → j < limits.TIMERS → committed words t (header.period j) ≡ (saved program m t).period j
     period_is j lt = block (header.period j) ∙ period_at (saved program m t) _ _ _ j lt
 
     -- behind the header stands the state

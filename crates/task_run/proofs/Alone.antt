@@ -1,5 +1,7 @@
 -- The service of a pick that finds words in the ranges of their places stays within its own.
 use Rattle.task_run.proofs.Common.{◌≡◌, ℕ, ◌+◌, ◌-◌, ◌/◌, ◌%◌, ◌^◌, ◌<◌, ◌≤◌, false, length, Option, Some, None, arith, refl, sym, inl, inr, subst, lt-ltb, le-ltb, false≢true, cases_Bool, cases_lt, TaskId, Origin, FitsOrigin, Buffer, is_dirty, after_copy, no_writes, Act, Sets, Goes, Loads, Saves, Puts, Sends, Arms, Stops, Continues, Ends, Traps, Program, Cpu, number_of, advance, advance_with, decoded, IsAccepted, thread_def, pipe_def, task_def, instr_at, first_task, Pick, Ending, Execution, Sending, Phase, WriteFirst, WriteOrigin, WriteValue, WriteTaken, ReadPeriod, WriteDue, Resume, Fetch, ReadState, WriteState, ReadCount, StoreLog, WriteCount, LoadReader, LoadTaken, ReadWritten, StoreItem, WriteWritten, WriteArmed, WritePeriod, WriteStopped, WriteNext, WriteFinished, ReadTotal, WriteTotal, WriteStamp, StoreCommit, StoreAck, StoreEmpty, Over, TaskMachine, Action, Put, Get, Make, action, want, take, after, after_action, after_act, after_fetch, after_event, after_value, after_written, after_next, after_commit, release_phase, end_phase, phase_again, first_phase, running_task, begin, proceed, stepped, trap, instr_of, cpu_of, given_by, execution_of, is_late, is_over, FitsExecution, FitsChain, FitsPhase, IsOfPipe, IsOfTimer, task_loaded, IsPhaseOf, IsServiceOf}
+use Rattle.ink_base.specs.declared.limits.TheConstants as limits
+use Rattle.push_core.specs.Table.{greatest_tail}
 use Rattle.task_run.specs.Reached.{GoesOn}
 use Rattle.ink_base.specs.declared.event.Origin.TheVariants as origins
 use Rattle.event_pipe.specs.Ring.{has_room}
@@ -11,18 +13,18 @@ use Rattle.task_run.proofs.Limits.{execution_fits}
 use Rattle.task_run.proofs.TaskWords.{task_word, any_buffer}
 
 -- the number of an event's pipe or timer
-pipe_few : (program : Program) (t : ℕ) (o : Origin) → IsAccepted program → IsOfPipe o → IsOwnOrigin program t o → number_of o < 8
+pipe_few : (program : Program) (t : ℕ) (o : Origin) → IsAccepted program → IsOfPipe o → IsOwnOrigin program t o → number_of o < limits.PIPES
 pipe_few program t (origins.Source source count) accepted of own = absurd of
 pipe_few program t (origins.Pipe pipe item) accepted of own =
-    let most : length program.pipes ≤ 8 = accepted.counts.pipes in
+    let most : length program.pipes ≤ limits.PIPES = accepted.counts.pipes in
     let known : pipe.0 < length program.pipes = own.0 in omega arith
 pipe_few program t (origins.Timer timer deadline) accepted of own = absurd of
 
-timer_few : (program : Program) (t : ℕ) (o : Origin) → IsAccepted program → IsOfTimer o → IsOwnOrigin program t o → number_of o < 8
+timer_few : (program : Program) (t : ℕ) (o : Origin) → IsAccepted program → IsOfTimer o → IsOwnOrigin program t o → number_of o < limits.TIMERS
 timer_few program t (origins.Source source count) accepted of own = absurd of
 timer_few program t (origins.Pipe pipe item) accepted of own = absurd of
 timer_few program t (origins.Timer timer deadline) accepted of own =
-    let most : length program.timers ≤ 8 = accepted.counts.timers in
+    let most : length program.timers ≤ limits.TIMERS = accepted.counts.timers in
     let known : timer.0 < length program.timers = own.0 in omega arith
 
 timer_due : (pick : Pick) (o : Origin) → IsOfTimer o → IsDuePick pick o → (1 ≤ pick.due_word) × (pick.due_word ≤ 2 ^ 48)
@@ -138,7 +140,7 @@ module _ (program : Program) (pick : Pick) (stamp : ℕ) (accepted : IsAccepted 
   written_serves : (b : Buffer) (ending : Ending) (e : Execution) (phase : Phase) (s : Sending) (taken word : ℕ) → GoesOn program e → s.pipe < length program.pipes →
       taken < 2 ^ 32 → word ≤ taken + (pipe_def program s.pipe).places → Serves (after_written program (machine_at pick stamp b ending e phase) s taken word)
   written_serves b ending e phase s taken word goes known small within =
-      let places : (pipe_def program s.pipe).places ≤ 64 = (accepted.pipes s.pipe known).places in
+      let places : (pipe_def program s.pipe).places ≤ limits.PIPE_PLACES = (accepted.pipes s.pipe known).places in
       elim (cases_Bool (has_room (pipe_def program s.pipe).places word taken)) [
         | inl room ↦ rw room (refl, refl, λ live. (((goes.0, known), omega arith), goes))
         | inr full ↦ rw full (proceed_serves b ending e phase (advance_with (cpu_of e) s.register 0) goes.0 goes.1)
@@ -206,8 +208,8 @@ module _ (program : Program) (pick : Pick) (stamp : ℕ) (accepted : IsAccepted 
   serves_fits : (r : TaskMachine) → Serves r → is_over r.phase ≡ false → IsServiceOf program r
   serves_fits r serves more =
       let ready = serves.2 more in
-      let queue : (thread_def program pick.thread.0).queue ≤ 32 = (accepted.threads pick.thread.0 own.known).queue in
-      let here : pick.position ≤ 1048560 = own.position in
+      let queue : (thread_def program pick.thread.0).queue ≤ limits.QUEUE_PLACES = (accepted.threads pick.thread.0 own.known).queue in
+      let here : pick.position ≤ greatest_tail = own.position in
       record {
         pick = subst (IsPickOf program) (sym serves.0) own;
         fits = record {

@@ -1,5 +1,6 @@
 -- The words that a task's accesses are made at are on the board.
 use Rattle.task_run.proofs.Common.{◌≡◌, ℕ, ◌+◌, ◌-◌, ◌*◌, ◌/◌, ◌%◌, ◌<◌, ◌≤◌, length, arith, refl, subst, Buffer, Program, number_of, IsAccepted, pipe_def, Pick, Ending, Execution, Phase, WriteFirst, WriteOrigin, WriteValue, WriteTaken, ReadPeriod, WriteDue, Resume, Fetch, ReadState, WriteState, StoreLog, WriteCount, LoadReader, LoadTaken, ReadWritten, StoreItem, WriteWritten, WriteArmed, WritePeriod, WriteStopped, ReadTotal, StoreAck, Over, total_word, want, FitsPhase, FitsWord, task_loaded, IsPhaseOf}
+use Rattle.ink_base.specs.declared.limits.TheConstants as limits
 use Rattle.fram_words.specs.Header as header
 use Rattle.never_cut.specs.Ranges.{IsAnswerTo}
 use Rattle.task_run.proofs.Accesses.{machine_at}
@@ -12,11 +13,11 @@ pub task_word : (program : Program) (pick : Pick) (stamp : ℕ) (b : Buffer) (en
     IsAnswerTo program (task_loaded (machine_at pick stamp b ending e phase)) (want program (machine_at pick stamp b ending e phase)) word → FitsWord program phase word
 task_word program pick stamp b ending e ReadPeriod word accepted fits h = h.period (number_of pick.event.origin) fits.0 (whole_word (header.period (number_of pick.event.origin)))
 task_word program pick stamp b ending e (LoadTaken s commit) word accepted fits h =
-    let most : length program.pipes ≤ 8 = accepted.counts.pipes in
+    let most : length program.pipes ≤ limits.PIPES = accepted.counts.pipes in
     let known : s.pipe < length program.pipes = fits.1 in
     let low : word < 4294967295 = h.taken (rw (whole_word (header.taken s.pipe)) (omega arith)) (rw (whole_word (header.taken s.pipe)) (omega arith)) in omega arith
 task_word program pick stamp b ending e (ReadWritten s taken) word accepted fits h =
-    let most : length program.pipes ≤ 8 = accepted.counts.pipes in
+    let most : length program.pipes ≤ limits.PIPES = accepted.counts.pipes in
     let known : s.pipe < length program.pipes = fits.0.1 in
     let at : 8 * (header.written s.pipe / 8) + header.written s.pipe % 8 - header.written 0 ≡ s.pipe = omega arith in
     subst (λ q. (taken ≤ word) × (word ≤ taken + (pipe_def program q).places)) at

@@ -15,6 +15,7 @@ use crate::machine::TaskMachine;
 use crate::parts::state_of;
 use crate::phase::Phase;
 use crate::sending::Sending;
+use ink_base::limits::TASK_LIMIT;
 use task_isa::{Act, Instr, Program, Reg, act_for};
 
 impl TaskMachine {
@@ -166,7 +167,7 @@ impl TaskMachine {
 
     // An instruction was executed.
     fn step(&mut self)
-        requires { self.old.execution.executed < 4096 }
+        requires { self.old.execution.executed < TASK_LIMIT }
         ensures { self.new ≡ record self.old { execution = record self.old.execution { executed = self.old.execution.executed + 1 }; phase = phases.Fetch } }
     {
         self.execution.executed += 1;
