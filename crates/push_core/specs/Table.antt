@@ -155,7 +155,7 @@ greatest_tail = limits.SOURCES * limits.READINGS
 abbrev pub greatest_position : ℕ
 greatest_position = greatest_tail + limits.QUEUE_PLACES - 1
 
--- as many places as a queue can have, of addresses below 2 ^ 32, and a source of a number that one can have
+-- the places are within the limit, at least one and of addresses below 2 ^ 32, and the number of the source is within its own
 pub record IsPort (port : Port) : Type 0 where
   pub source : port.source.0 < limits.SOURCES
   pub some : 0 < port.queue.places
