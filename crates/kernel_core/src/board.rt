@@ -224,7 +224,6 @@ impl Core {
     {
         let _begun = self.begun;
     }
-
 }
 
 // Each source goes back to the first row of its table.
