@@ -33,7 +33,7 @@ open_at [] t lt = absurd (omega arith)
 open_at (d ∷ defs) zero lt = refl
 open_at (d ∷ defs) (suc t) lt = open_at defs t (omega arith)
 
-open_source_at : (sources : List ThreadId) (i : ℕ) → get_or (map open_source sources) i no_source ≡ no_source
+pub open_source_at : (sources : List ThreadId) (i : ℕ) → get_or (map open_source sources) i no_source ≡ no_source
 open_source_at [] i = refl
 open_source_at (s ∷ sources) zero = refl
 open_source_at (s ∷ sources) (suc i) = open_source_at sources i

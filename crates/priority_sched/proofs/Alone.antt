@@ -10,10 +10,7 @@ use Rattle.never_cut.specs.Ranges.{IsOwnOrigin, IsTaskOf, IsSlotOf, IsAnswerTo, 
 use Rattle.priority_sched.specs.Reached.{scan_loaded, IsChainOf, IsRowOf, IsScanOf}
 use Rattle.fram_words.specs.Header as header
 use Rattle.priority_sched.proofs.Searches.{IsSearched, searched}
-
--- a word of a block by its page and its number there
-whole_word : (w : ℕ) → 8 * (w / 8) + w % 8 ≡ w
-whole_word w = omega arith
+use Rattle.fram_words.proofs.Addresses.{whole_word}
 
 -- of a program's pipe or timer there are at most eight
 few_pipes : (program : Program) (q : ℕ) → IsAccepted program → q < length program.pipes → q < limits.PIPES

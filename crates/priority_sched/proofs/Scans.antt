@@ -4,7 +4,8 @@ use Rattle.ink_base.specs.declared.limits.TheConstants as limits
 use Rattle.fram_words.specs.Places as places
 use Rattle.fram_words.specs.Header as header
 use Rattle.priority_sched.proofs.Nexts.{goes_on}
-use Rattle.priority_sched.proofs.Looks.{load_kept, slot_step}
+use Rattle.priority_sched.proofs.Looks.{slot_step}
+use Rattle.never_cut.proofs.Loads.{load_kept}
 use Rattle.priority_sched.proofs.Chains.{origin_holds, value_holds, first_holds}
 use Rattle.priority_sched.proofs.Items.{taken_holds, writer_holds, written_holds, item_holds}
 use Rattle.priority_sched.proofs.Timers.{timer_holds}

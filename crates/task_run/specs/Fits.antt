@@ -10,7 +10,7 @@ use Rattle.task_run.specs.declared.sending.Sending.{Sending}
 use Rattle.task_run.specs.declared.phase.Phase.{Phase}
 use Rattle.task_run.specs.declared.phase.Phase.TheVariants.{WriteOrigin, WriteTaken, ReadPeriod, WriteDue, Resume, Fetch, ReadState, WriteState, StoreLog, WriteCount, LoadReader, LoadTaken, ReadWritten, StoreItem, WriteWritten, WriteArmed, WritePeriod, WriteStopped, ReadTotal, StoreAck, Over}
 use Rattle.task_run.specs.declared.machine.TaskMachine.{TaskMachine}
-use Rattle.task_run.specs.Machine.{device}
+use Rattle.task_run.specs.Actions.{device}
 
 -- an instruction of the task is executed
 pub record FitsExecution (program : Program) (x : Execution) : Type 0 where
