@@ -36,7 +36,8 @@ pub use Rattle.kernel_core.specs.Kernel.{first_kernel, point_found, takes}
 pub use Rattle.kernel_core.specs.Listed.{moves, moves_of, run, run_first}
 pub use Rattle.kernel_core.specs.Made.{made_by}
 pub use Rattle.kernel_core.specs.Moves.{AreMoves, IsActor, IsInRange, ticks, turns}
-pub use Rattle.kernel_core.specs.Record.{ChargeRecord, begun, charge_of, journal_of, not_begun, with_kernel, with_source, with_tick}
+pub use Rattle.kernel_core.specs.declared.charge_record.ChargeRecord.{ChargeRecord}
+pub use Rattle.kernel_core.specs.Record.{begun, charge_of, journal_of, not_begun, with_kernel, with_source, with_tick}
 pub use Rattle.kernel_core.specs.Stands.{BoardStands, memory, state}
 pub use Rattle.kernel_core.specs.kept.Holds.{HasSize, Holds}
 pub use Rattle.going_on.specs.Divided.{Division, IsDivided, IsSplit, all_behind, behind_settled, divided, first_part, first_run, second_after, second_part, second_run, state_left, whole_after, whole_run}

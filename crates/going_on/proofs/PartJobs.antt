@@ -32,7 +32,10 @@ module _ (sources : ℕ) (xs ys : List Charge) (are : AreCharges sources (xs ++ 
 
 -- as many readings as before, those that are left being the same
 pub settled_length : (next : ℕ) (readings : List ℕ) → next ≤ length readings → length (behind_settled next readings) ≡ length readings
-settled_length next readings le = omega (arith, length-append (replicate next 0) (drop next readings), length-replicate next 0, length-drop next readings)
+settled_length next readings le =
+    let none : ℕ = 0 in
+    let zeros : length (replicate next none) ≡ next = length-replicate next none in
+    omega (arith, length-append (replicate next none) (drop next readings), zeros, length-drop next readings)
 
 pub settled_at : (next : ℕ) (readings : List ℕ) (k : ℕ) → next ≤ k → get_or (behind_settled next readings) k 0 ≡ get_or readings k 0
 settled_at next readings k le =

@@ -1,6 +1,7 @@
 -- A board within a greater one: with charges before its own and charges behind them.
-use Rattle.going_on.proofs.Common.{◌≡◌, ℕ, zero, suc, ◌+◌, ◌-◌, ◌<◌, ◌≤◌, Bool, true, false, List, [], ◌∷◌, ◌++◌, length, take, replicate, set, if◌then◌else◌, refl, sym, ap, ◌∙◌, subst, arith, length-set, append-nil, append_assoc, get_or-append-add, get_or_append_left, set-append_left, set-append_right, Actor, Entry, Access, performed, first_row, is_left, take_of, point_of, access_of, port_of, Readings, readings_of, Model, Setup, Board, Move, Cut, Turn, sides, journal, charged, finds, kernel_access, kernel_turn, row_of, source_access, source_made, source_turn, clock_access, clock_turn, turn, cut, move, moved_by, entry_of_source, first_kernel, point_found, takes, AreMoves, IsActor, ChargeRecord, begun, charge_of, journal_of, not_begun, with_source, with_tick}
+use Rattle.going_on.proofs.Common.{◌≡◌, ℕ, zero, suc, ◌+◌, ◌-◌, ◌<◌, ◌≤◌, Bool, true, false, List, [], ◌∷◌, ◌++◌, length, take, replicate, set, if◌then◌else◌, refl, sym, ap, ◌∙◌, subst, arith, length-set, append-nil, append_assoc, get_or-append-add, get_or_append_left, set-append_left, set-append_right, Actor, Entry, Access, performed, first_row, is_left, take_of, point_of, access_of, port_of, Readings, readings_of, Model, Setup, Board, Move, Cut, Turn, sides, journal, charged, finds, kernel_access, kernel_turn, row_of, source_access, source_made, source_turn, clock_access, clock_turn, turn, cut, move, moved_by, entry_of_source, first_kernel, point_found, takes, AreMoves, IsActor, ChargeRecord, begun, charge_of, journal_of, not_begun, with_kernel, with_source, with_tick}
 use Rattle.ink_base.specs.declared.actor.Actor.TheVariants as actors
+use Rattle.ink_layout.specs.Points.{entry_of_point}
 use Rattle.kernel_core.proofs.Runs.{turn_begun}
 
 -- the greater board
@@ -82,7 +83,7 @@ module _ (before behind : List ChargeRecord) where
     part_turn : (b : Board) (actor : Actor) → 0 < b.begun → b.begun ≤ length b.charges → IsActor s actor → AllAgree s readings (widened before behind b) →
         turn s (widened before behind b) actor ≡ widened before behind (turn (other s readings first) b actor)
     part_turn b actors.Kernel some few is agree =
-        ap (λ (l : List ChargeRecord). record (kernel_turn (other s readings first) b) { charges = l; begun = length before + b.begun }) (charged_part b _ some few)
+        ap (λ (l : List ChargeRecord). record (kernel_turn (other s readings first) b) { charges = l; begun = length before + b.begun }) (charged_part b (with_kernel (entry_of_point (point_found s.program b.kernel (finds b (kernel_access s b))))) some few)
     part_turn b (actors.Source i) some few is agree =
         let same = agree i.0 is in
         sym (λ k. turned_with s (widened before behind b) i.0 (same.0 k) (same.1 k)) ∙ part_turned b i.0 (length (readings_of readings i.0)) (access_of (port_of (sides s) i.0) (readings_of readings i.0) (row_of b i.0)) some few
