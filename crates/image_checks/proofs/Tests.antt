@@ -1,5 +1,5 @@
 -- What a test that came out tells.
-use Rattle.std.proofs.Common.{◌≡◌, ◌↔◌, IsTrue, Bool, true, false, refl}
+use Rattle.std.proofs.Common.{◌≡◌, ◌↔◌, IsTrue, true, false, refl}
 
 -- it was passed
 pub granted : {P : Type 0} → (IsTrue true ↔ P) → P

@@ -1,6 +1,6 @@
 //! The sources: the seventh check of an image.
 
-ghost use Rattle.std.specs.Prelude.{◌≡◌, ◌+◌, ◌<◌, ◌≤◌, ◌↔◌, IfSome, IfNone, IsTrue, length};
+ghost use Rattle.std.specs.Prelude.{◌≡◌, ◌+◌, ◌^◌, ◌<◌, ◌↔◌, IfSome, IfNone, IsTrue, length};
 ghost use Rattle.fram_words.specs.Steps.{place_of};
 ghost use Rattle.prog_check.specs.Lookup.{source_thread};
 ghost use Rattle.push_core.specs.Queue.{IsFinishing};
@@ -117,7 +117,7 @@ fn is_count_right(plan: &Plan, words: &[u64], source: SourceId, j: u32) -> bool
 
 // Whether an event isn't of the source, or is its event behind so many of those that it holds, of so many accepted ones.
 fn has_count(source: SourceId, event: Event, accepted: u64, own: u64, before: u64) -> bool
-    requires { before ≤ own }
+    requires { accepted + before < 2 ^ 64 }
     ensures { IsTrue result ↔ HasCount source.0 event accepted own before }
 {
     match event.origin {
