@@ -1,11 +1,11 @@
 -- Each job can be divided behind any of its charges.
-use Rattle.going_on.proofs.Common.{◌≡◌, ℕ, zero, suc, ◌+◌, ◌<◌, List, [], ◌∷◌, ◌++◌, length, map, refl, sym, ap, ◌∙◌, subst, arith, length-map, Readings, readings_of, SourceModel, no_source, source_of, get_or, Charge, JobParts, IsJob, AreFirstWords, Model, state, memory, shape, EveryJobDivides, Division, IsDivided, IsSplit, all_behind, behind_settled, divided, state_left, unmarked, without_scan}
+use Rattle.going_on.proofs.Common.{◌≡◌, ℕ, zero, suc, ◌<◌, List, [], ◌∷◌, ◌++◌, length, refl, ap, ◌∙◌, subst, arith, Readings, readings_of, SourceModel, no_source, get_or, Charge, JobParts, IsJob, AreFirstWords, Model, state, memory, shape, EveryJobDivides, Division, IsDivided, IsSplit, all_behind, behind_settled, divided, state_left, without_scan}
 use Rattle.fram_words.specs.Places.{Memory}
 use Rattle.fram_words.specs.Shape.{memory_of}
 use Rattle.job_parts.specs.Job.{words_in}
 use Rattle.never_cut.specs.ReadOff.{IsReadOff}
 use Rattle.going_on.proofs.Wholes.{s, at_split}
-use Rattle.going_on.proofs.Starts.{sound_at, read_there, split_words, split_state}
+use Rattle.going_on.proofs.Starts.{read_there, split_words, split_state}
 
 -- as many lists of readings as sources, and each behind those that its source has settled
 behind_count : (sources : List SourceModel) (readings : Readings) → length (all_behind sources readings) ≡ length sources

@@ -1,5 +1,5 @@
 -- The second run goes on as the whole does.
-use Rattle.going_on.proofs.Common.{◌≡◌, ◌⊎◌, inl, inr, ℕ, zero, suc, ◌+◌, ◌<◌, ◌≤◌, Bool, List, [], ◌∷◌, ◌++◌, length, take, if◌then◌else◌, refl, sym, ap, ◌∙◌, subst, arith, take_all, append-nil, length-set, length-replicate, slice_index, Actor, Access, Charge, Board, Cut, Move, Setup, readings_of, access_at, access_of, is_left, point_of, port_of, Port, Row, Stage, LoadSrc, LoadSlots, LoadAck, LoadTail, LoadSlot, Publish, MoveTail, HelpTail, StoreSkip, StoreAccepted, publication, KnowsAt, near, Kept, source_of, cut, finds, first_board, first_kernel, journal, made_by, moved_by, moves, row_of, run, run_first, sides, AreMoves, IsActor, ChargeRecord, begun, charge_of, journal_of, not_begun, entry_of_source, memory, state, Holds, EndsAsWhole, GoesAsWhole, IsAsWhole, IsWhole, Division, IsDivided, first_run, second_after, second_run, whole_after, whole_run}
+use Rattle.going_on.proofs.Common.{◌≡◌, ◌⊎◌, inl, inr, ℕ, zero, suc, ◌+◌, ◌<◌, List, [], ◌∷◌, ◌++◌, length, take, if◌then◌else◌, refl, sym, ap, ◌∙◌, subst, arith, take_all, append-nil, length-set, length-replicate, slice_index, Actor, Access, Charge, Board, Cut, Move, Setup, readings_of, access_at, is_left, point_of, port_of, Port, Row, Stage, LoadSrc, LoadSlots, LoadAck, LoadTail, LoadSlot, Publish, MoveTail, HelpTail, StoreSkip, StoreAccepted, publication, KnowsAt, near, source_of, cut, finds, first_board, first_kernel, journal, made_by, moved_by, moves, row_of, sides, AreMoves, IsActor, ChargeRecord, begun, charge_of, journal_of, not_begun, entry_of_source, memory, state, EndsAsWhole, GoesAsWhole, IsAsWhole, IsWhole, Division, IsDivided, first_run, second_after, second_run, whole_run}
 use Rattle.ink_base.specs.declared.actor.Actor.TheVariants as actors
 use Rattle.source_laws.specs.Model.{places_for}
 use Rattle.kernel_core.specs.declared.made.Made.{Made}
@@ -8,8 +8,8 @@ use Rattle.kernel_core.specs.Views.{seen}
 use Rattle.kernel_core.proofs.Runs.{moves_taken}
 use Rattle.std.specs.Prelude.{Some}
 use Rattle.going_on.proofs.Parts.{widened, other, AllAgree, part_cut, part_moves, joined_journal}
-use Rattle.going_on.proofs.Wholes.{s, count, at_split, behind, unbegun, whole_is, end_is, holds, back_moves, first_begun}
-use Rattle.going_on.proofs.Starts.{floor, above_floor, lengths_are, agree_from, split_charges, split_begun, start_words}
+use Rattle.going_on.proofs.Wholes.{s, at_split, behind, unbegun, whole_is, end_is, holds, back_moves, first_begun}
+use Rattle.going_on.proofs.Starts.{above_floor, lengths_are, agree_from, split_charges, split_begun, start_words}
 
 -- a row's access looks at its next reading alone, and at that only where it publishes it
 same_access : (port : Port) (one two : List ℕ) (a k : ℕ) (stage : Stage) → ((p : ℕ) → stage ≡ Publish p → slice_index one k ≡ slice_index two k) → access_at port one a k stage ≡ access_at port two a k stage
@@ -44,7 +44,7 @@ module _ (d : Division) (h : IsDivided d) where
       let row : Row = row_of (behind d n) i in
       let part = (holds d h.split n).kept.sources i in
       let knows = subst (λ (stage : Stage). KnowsAt i (places_for (sides (s d)) i) (length (readings_of d.job.readings i))
-          (near (sides (s d)) (seen (memory (s d) (behind d n)) (state (s d) (behind d n)) (row_of (behind d n))) i) (row_of (behind d n) i).accepted (row_of (behind d n) i).next stage) is part.knows in
+      (near (sides (s d)) (seen (memory (s d) (behind d n)) (state (s d) (behind d n)) (row_of (behind d n))) i) (row_of (behind d n) i).accepted (row_of (behind d n) i).next stage) is part.knows in
       knows.0.next
 
   pub all_agree : (n : ℕ) → AllAgree (s d) d.readings (behind d n)

@@ -1,6 +1,5 @@
 -- Outputs in the order of their stamps, each stamp being of one thread, are told by those of each thread.
-use Rattle.going_on.proofs.Common.{◌≡◌, ℕ, zero, suc, ◌<◌, ◌≤◌, ◌==◌, cond, Bool, true, false, List, [], ◌∷◌, length, drop, refl, sym, ap, ◌∙◌, subst, arith, eq-eqb, get_or, All, filter}
-use Rattle.std.proofs.lemmas.Bool.{cases_Bool}
+use Rattle.going_on.proofs.Common.{◌≡◌, ℕ, suc, ◌<◌, ◌≤◌, ◌==◌, cond, Bool, true, false, List, [], ◌∷◌, length, drop, refl, sym, ap, ◌∙◌, subst, arith, eq-eqb, get_or, All}
 use Rattle.std.specs.List.Sorted.{IsNonDecreasingBy}
 use Rattle.ink_base.specs.declared.output.Output.{Output}
 use Rattle.never_cut.specs.Outputs.{outputs_in}

@@ -1,5 +1,5 @@
 -- A board within a greater one: with charges before its own and charges behind them.
-use Rattle.going_on.proofs.Common.{◌≡◌, ℕ, zero, suc, ◌+◌, ◌-◌, ◌<◌, ◌≤◌, Bool, true, false, List, [], ◌∷◌, ◌++◌, length, take, replicate, set, if◌then◌else◌, refl, sym, ap, ◌∙◌, subst, arith, length-set, append-nil, append_assoc, get_or-append-add, get_or_append_left, set-append_left, set-append_right, Actor, Entry, Access, performed, first_row, is_left, take_of, point_of, access_of, port_of, Readings, readings_of, Model, Setup, Board, Move, Cut, Turn, sides, journal, charged, finds, kernel_access, kernel_turn, row_of, source_access, source_made, source_turn, clock_access, clock_turn, turn, cut, move, moved_by, entry_of_source, first_kernel, point_found, takes, AreMoves, IsActor, ChargeRecord, begun, charge_of, journal_of, not_begun, with_kernel, with_source, with_tick}
+use Rattle.going_on.proofs.Common.{◌≡◌, ℕ, suc, ◌+◌, ◌-◌, ◌<◌, ◌≤◌, Bool, true, false, List, [], ◌∷◌, ◌++◌, length, take, set, if◌then◌else◌, refl, sym, ap, ◌∙◌, subst, arith, length-set, append_assoc, get_or-append-add, get_or_append_left, set-append_left, set-append_right, Actor, Access, performed, is_left, take_of, point_of, access_of, port_of, Readings, readings_of, Model, Setup, Board, Move, Cut, Turn, sides, charged, finds, kernel_access, kernel_turn, row_of, source_made, clock_turn, turn, cut, move, moved_by, entry_of_source, point_found, AreMoves, IsActor, ChargeRecord, begun, charge_of, journal_of, not_begun, with_kernel, with_source, with_tick}
 use Rattle.ink_base.specs.declared.actor.Actor.TheVariants as actors
 use Rattle.ink_layout.specs.Points.{entry_of_point}
 use Rattle.kernel_core.proofs.Runs.{turn_begun}

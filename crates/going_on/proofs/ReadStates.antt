@@ -1,25 +1,23 @@
 -- The state that is read off words which stand for a state is that state without what a cut loses.
-use Rattle.going_on.proofs.Common.{◌≡◌, ◌⊎◌, inl, inr, ℕ, zero, suc, ◌+◌, ◌^◌, ◌<◌, ◌≤◌, Bool, true, false, List, [], ◌∷◌, ◌++◌, length, map, get_or, Option, Some, None, refl, sym, ap, ◌∙◌, subst, arith, All, All-append, ext_get_or, get_or-map, length-map, eqb-true, Entry, Program, Model, SourceModel, thread_of, source_of, no_source, Readings, readings_of, Legal, effect, IsLegal, after, IsSound, unmarked, without_scan}
+use Rattle.going_on.proofs.Common.{◌≡◌, ◌⊎◌, inl, inr, ℕ, zero, suc, ◌<◌, Bool, true, false, List, [], ◌∷◌, ◌++◌, length, map, get_or, Option, Some, None, refl, sym, ap, ◌∙◌, subst, arith, All, All-append, ext_get_or, get_or-map, length-map, Entry, Program, Model, SourceModel, thread_of, source_of, no_source, Readings, Legal, effect, IsLegal, after, IsSound, unmarked, without_scan}
 use Rattle.ink_base.specs.declared.ids.ThreadId.{ThreadId}
-use Rattle.ink_base.specs.declared.ids.TaskId.{TaskId}
 use Rattle.ink_base.specs.declared.entry.Entry.TheVariants.{Push, Refuse, Skip, Tick, Scan, Look, Commit, Release}
 use Rattle.ink_base.specs.declared.event.Origin.{Origin}
 use Rattle.ink_base.specs.declared.event.Origin.TheVariants as origins
 use Rattle.ink_base.specs.declared.output.Output.{Output}
 use Rattle.std.specs.Prelude.{slice_get}
-use Rattle.std.proofs.lemmas.Bool.{cases_Bool}
 use Rattle.fram_words.specs.Places.{Memory, Src, Ack}
-use Rattle.push_core.specs.Queue.{Queue, Source, StandsSource}
+use Rattle.push_core.specs.Queue.{Queue, StandsSource}
 use Rattle.prog_check.specs.Accepted.{IsAccepted}
 use Rattle.prog_check.specs.Lookup.{source_thread}
 use Rattle.never_cut.specs.State.{queue_of, source_in}
 use Rattle.never_cut.specs.Stands.{Stands, StandsPrivate, flag}
-use Rattle.never_cut.specs.Sound.{HasShape, IsServed, IsQueued}
+use Rattle.never_cut.specs.Sound.{IsServed, IsQueued}
 use Rattle.never_cut.specs.Within.{Lasts}
 use Rattle.never_cut.specs.Ranges.{IsOwnOrigin}
 use Rattle.never_cut.specs.ReadOff.{HasEventOf, IsOutputOf, IsReadOff, told_queue, told_source, is_one_more}
 use Rattle.never_cut.specs.Image.{held_for}
-use Rattle.never_cut.specs.Laws.{IsStamped, commits_in, committing}
+use Rattle.never_cut.specs.Laws.{commits_in, committing}
 use Rattle.never_cut.proofs.ReadSources.{more_found, more_is}
 use Rattle.never_cut.proofs.Stamped.{stamps_by_commits}
 use Rattle.never_cut.proofs.ToldQueues.{queue_told}
@@ -127,8 +125,8 @@ module _ (program : Program) (readings : Readings) (words : Memory) (m : Model) 
     sources_read =
         ext_get_or no_source a.sources (map unmarked m.sources) (read.shape.sources ∙ (sym sound.shape.sources ∙ sym (length-map m.sources unmarked)))
         (λ i lt.
-            let there : i < length program.sources = omega (arith, read.shape.sources) in
-            source_is (source_of a i) (unmarked (source_of m i)) (read.sources i there ∙ source_told i there) ∙ sym (unmarked_at i there))
+        let there : i < length program.sources = omega (arith, read.shape.sources) in
+        source_is (source_of a i) (unmarked (source_of m i)) (read.sources i there ∙ source_told i there) ∙ sym (unmarked_at i there))
 
     pub reads : a ≡ without_scan m
     reads =

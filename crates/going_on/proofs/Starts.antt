@@ -1,5 +1,5 @@
 -- The second part begins with the state that the whole has there, and its readings are those that are left.
-use Rattle.going_on.proofs.Common.{◌≡◌, inl, inr, ℕ, ◌+◌, ◌-◌, ◌<◌, ◌≤◌, List, [], ◌∷◌, ◌++◌, length, map, get_or, Option, Some, None, refl, sym, ap, ◌∙◌, subst, arith, slice_index, All, append-nil, cases_lt, get_or_past, Entry, Program, Model, IsSound, Readings, SourceModel, source_of, no_source, readings_of, effect, after, IsLegal, first_of, JobParts, IsJob, Start, Setup, Board, journal, journal_of, ChargeRecord, state, memory, shape, BoardStands, Division, IsDivided, IsSplit, first_run, behind_settled, unmarked, without_scan}
+use Rattle.going_on.proofs.Common.{◌≡◌, inl, inr, ℕ, ◌+◌, ◌<◌, ◌≤◌, List, [], ◌∷◌, ◌++◌, length, Option, Some, None, refl, sym, ap, ◌∙◌, subst, arith, slice_index, All, append-nil, cases_lt, get_or_past, Entry, Program, Model, IsSound, Readings, SourceModel, source_of, readings_of, effect, after, IsLegal, Start, Board, journal, journal_of, state, memory, shape, BoardStands, Division, IsDivided, IsSplit, first_run, without_scan}
 use Rattle.std.specs.Option.{ForSome}
 use Rattle.fram_words.specs.Places.{Memory}
 use Rattle.fram_words.specs.Shape.{memory_of}
@@ -17,6 +17,11 @@ use Rattle.going_on.proofs.Wholes.{s, count, at_split, behind, unbegun, whole_se
 pub after_both : (program : Program) (readings : Readings) (m : Model) (xs ys : List Entry) → after program readings m (xs ++ ys) ≡ after program readings (after program readings m xs) ys
 after_both program readings m [] ys = refl
 after_both program readings m (e ∷ xs) ys = after_both program readings (effect program readings m e) xs ys
+
+pub legal_both : (program : Program) (readings : Readings) (m : Model) (xs ys : List Entry) → IsLegal program readings m xs → IsLegal program readings (after program readings m xs) ys →
+    IsLegal program readings m (xs ++ ys)
+legal_both program readings m [] ys first more = more
+legal_both program readings m (e ∷ xs) ys first more = (first.0, legal_both program readings (effect program readings m e) xs ys first.1 more)
 
 module _ (d : Division) (h : IsSplit d) where
   pub stands_at : (n : ℕ) → BoardStands (s d) (behind d n)

@@ -1,30 +1,24 @@
 -- Two states that the same words tell have the same parts.
-use Rattle.going_on.proofs.Common.{◌≡◌, ◌⊎◌, inl, inr, ℕ, suc, ◌+◌, ◌-◌, ◌%◌, ◌^◌, ◌<◌, ◌≤◌, ◌==◌, true, List, [], ◌∷◌, length, get_or, Option, Some, None, refl, sym, ap, ◌∙◌, subst, arith, slice_index, All, cases_lt, ext_get_or, get_or-map, eqb-true, Program, Model, thread_of}
+use Rattle.going_on.proofs.Common.{◌≡◌, inl, inr, ℕ, ◌+◌, ◌-◌, ◌%◌, ◌^◌, ◌<◌, ◌≤◌, ◌==◌, true, List, [], ◌∷◌, length, get_or, Option, Some, None, refl, sym, ap, ◌∙◌, arith, slice_index, All, cases_lt, ext_get_or, get_or-map, eqb-true, Program, Model, thread_of}
 use Rattle.std.proofs.lemmas.List.Elements.{All-filter, filter_passes}
-use Rattle.std.specs.Option.{ForSome, ForNone}
 use Rattle.ink_base.specs.declared.ids.TaskId.{TaskId}
 use Rattle.ink_base.specs.declared.event.Event.{Event}
-use Rattle.ink_base.specs.declared.event.Origin.{Origin}
 use Rattle.ink_base.specs.declared.output.Output.{Output}
 use Rattle.fram_words.specs.Header as header
-use Rattle.fram_words.specs.Held.{next_word, due_word, origin_word, origin_of, output_word}
+use Rattle.fram_words.specs.Held.{next_word, due_word, origin_of, output_word}
 use Rattle.fram_words.specs.Places.{Memory, Log, Ring}
 use Rattle.fram_words.proofs.ReadBack.{origin_of-origin_word}
 use Rattle.thread_state.specs.Pages.{committed}
-use Rattle.push_core.specs.Queue.{Queue}
 use Rattle.prog_check.specs.Accepted.{IsAccepted}
-use Rattle.prog_check.specs.Lookup.{thread_def, pipe_def, timer_def}
-use Rattle.never_cut.specs.declared.thread_model.ThreadModel.{ThreadModel}
-use Rattle.never_cut.specs.declared.pipe_model.PipeModel.{PipeModel}
-use Rattle.never_cut.specs.declared.timer_model.TimerModel.{TimerModel}
+use Rattle.prog_check.specs.Lookup.{pipe_def, timer_def}
 use Rattle.never_cut.specs.State.{pipe_of, timer_of, queue_of, no_thread, no_pipe, no_timer}
 use Rattle.never_cut.specs.Commit.{outputs_of}
 use Rattle.never_cut.specs.Outputs.{outputs_in}
-use Rattle.never_cut.specs.Stands.{StandsPrivate, saved, thread_words}
+use Rattle.never_cut.specs.Stands.{StandsPrivate, saved}
 use Rattle.never_cut.specs.Sound.{HasShape}
 use Rattle.never_cut.specs.ReadOff.{HasEventOf, IsOutputOf}
 use Rattle.never_cut.specs.Ranges.{IsOwnOrigin}
-use Rattle.never_cut.proofs.Blocks.{running_word, first_word, event_words, served_word, trapped_word, expired_word, outputs_word, taken_count, written_count, timer_count, period_count, state_at, stamp_word}
+use Rattle.never_cut.proofs.Blocks.{running_word, first_word, event_words, served_word, trapped_word, expired_word, outputs_word, taken_count, written_count, timer_count, period_count, state_at}
 use Rattle.never_cut.proofs.ReadStates.{own_bits}
 use Rattle.going_on.proofs.Outputs.{Rise, AreOwn, same_outputs}
 
@@ -130,9 +124,9 @@ module _ (program : Program) (words : Memory) (a b : Model) (accepted : IsAccept
         let long : length (outputs_of a t) ≡ length (outputs_of b t) = sym (outputs_word program words a t known one.private) ∙ outputs_word program words b t known two.private in
         ext_get_or d (outputs_of a t) (outputs_of b t) long
         (λ n lt.
-            let x = output_is a one n d lt in
-            let y = output_is b two n d (omega (arith, long)) in
-            same_output (get_or (outputs_of a t) n d) (get_or (outputs_of b t) n d) (sym x.0 ∙ y.0) x.1 y.1 (x.2 ∙ sym y.2))
+        let x = output_is a one n d lt in
+        let y = output_is b two n d (omega (arith, long)) in
+        same_output (get_or (outputs_of a t) n d) (get_or (outputs_of b t) n d) (sym x.0 ∙ y.0) x.1 y.1 (x.2 ∙ sym y.2))
 
   pub threads_are : ((t : ℕ) → t < length program.threads → queue_of (thread_of a t) ≡ queue_of (thread_of b t)) → a.threads ≡ b.threads
   threads_are queues =
@@ -152,8 +146,8 @@ module _ (program : Program) (words : Memory) (a b : Model) (accepted : IsAccept
     pipe_items =
         ext_get_or 0 (pipe_of a q).items (pipe_of b q).items pipe_length
         (λ k lt.
-            sym (one.private.pipes q known k lt)
-            ∙ (ap (λ n. words (Ring q ((n + k) % (pipe_def program q).places))) pipe_taken ∙ two.private.pipes q known k (omega (arith, pipe_length))))
+        sym (one.private.pipes q known k lt)
+        ∙ (ap (λ n. words (Ring q ((n + k) % (pipe_def program q).places))) pipe_taken ∙ two.private.pipes q known k (omega (arith, pipe_length))))
 
     pipe_is : pipe_of a q ≡ pipe_of b q
     pipe_is = λ k. record { items = pipe_items k; taken = pipe_taken k }

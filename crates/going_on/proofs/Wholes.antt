@@ -1,5 +1,5 @@
 -- The run of the whole job, at the end of its first part and from there on.
-use Rattle.going_on.proofs.Common.{◌≡◌, ℕ, zero, suc, ◌+◌, ◌-◌, ◌<◌, ◌≤◌, List, [], ◌∷◌, ◌++◌, length, take, replicate, Option, Some, None, refl, sym, ap, ◌∙◌, subst, arith, take_all, append-nil, append_assoc, length-append, replicate-append-replicate, flat_map, Entry, Program, Model, Readings, readings_of, Legal, effect, IsLegal, after, noted, source_of, first_row, Charge, JobParts, IsJob, AreFirstWords, first_of, Setup, Board, Move, Cut, Turn, move, moved_by, first_board, journal, row_of, moves, moves_of, run, run_first, setup_of, AreMoves, IsActor, IsInRange, ticks, turns, ChargeRecord, not_begun, state, memory, BoardStands, HasSize, Holds, Division, first_part, first_run, second_part, second_after, whole_after, whole_run, IsSetup, AreCharges, length-replicate, IsSplit}
+use Rattle.going_on.proofs.Common.{◌≡◌, ℕ, zero, suc, ◌+◌, ◌≤◌, List, [], ◌∷◌, ◌++◌, length, take, replicate, Option, Some, None, refl, sym, ap, ◌∙◌, subst, arith, append-nil, append_assoc, length-append, replicate-append-replicate, Entry, noted, Charge, JobParts, IsJob, first_of, Setup, Board, Move, Cut, Turn, move, moved_by, first_board, journal, moves, moves_of, run_first, setup_of, AreMoves, turns, ChargeRecord, not_begun, state, HasSize, Holds, Division, first_run, whole_after, whole_run, IsSetup, AreCharges, length-replicate, IsSplit}
 use Rattle.std.proofs.lemmas.Grind.{flat_map-append}
 use Rattle.never_cut.specs.Within.{Lasts}
 use Rattle.never_cut.proofs.Lasting.{lasts_less}
@@ -8,7 +8,7 @@ use Rattle.kernel_core.proofs.Firsts.{first_holds}
 use Rattle.kernel_core.proofs.CoreRuns.{moved_append}
 use Rattle.kernel_core.proofs.Growth.{one_entry, all_begun, all_recorded}
 use Rattle.kernel_core.proofs.JobMoves.{job_moves, job_range, job_setup, job_first}
-use Rattle.going_on.proofs.Parts.{widened, other, AllAgree, part_moves}
+use Rattle.going_on.proofs.Parts.{widened, part_moves}
 use Rattle.going_on.proofs.PartJobs.{front_charges, back_charges}
 
 take_behind : {X : Type 0} (xs ys : List X) (n : ℕ) → take (length xs + n) (xs ++ ys) ≡ xs ++ take n ys
