@@ -32,7 +32,8 @@ pub record IsAlike (a b : Model) : Type 0 where
   pub scan : (b.scan ≡ None) ⊎ (b.scan ≡ a.scan)
   pub marks : AreMarked a.sources b.sources
 
-set_marks : (xs ys : List SourceModel) (j : ℕ) (x y : SourceModel) → length xs ≡ length ys → AreMarked xs ys → (y.refused ≡ true → x.refused ≡ true) → AreMarked (set xs j x) (set ys j y)
+set_marks : (xs ys : List SourceModel) (j : ℕ) (x y : SourceModel) → length xs ≡ length ys → AreMarked xs ys → (y.refused ≡ true → x.refused ≡ true) →
+    AreMarked (set xs j x) (set ys j y)
 set_marks [] [] j x y long marks mark i is = marks i is
 set_marks [] (b ∷ ys) j x y long marks mark i is = absurd (omega arith)
 set_marks (a ∷ xs) [] j x y long marks mark i is = absurd (omega arith)
@@ -42,7 +43,8 @@ set_marks (a ∷ xs) (b ∷ ys) (suc j) x y long marks mark zero is = marks 0 is
 set_marks (a ∷ xs) (b ∷ ys) (suc j) x y long marks mark (suc i) is = set_marks xs ys j x y (omega arith) (λ k. marks (suc k)) mark i is
 
 -- a source that has settled more
-set_rises : (xs : List SourceModel) (i j : ℕ) (s : SourceModel) → (get_or xs j no_source).next ≤ s.next → (get_or xs i no_source).next ≤ (get_or (set xs j s) i no_source).next
+set_rises : (xs : List SourceModel) (i j : ℕ) (s : SourceModel) → (get_or xs j no_source).next ≤ s.next →
+    (get_or xs i no_source).next ≤ (get_or (set xs j s) i no_source).next
 set_rises [] i j s le = omega arith
 set_rises (x ∷ xs) zero zero s le = le
 set_rises (x ∷ xs) zero (suc j) s le = omega arith
@@ -60,9 +62,13 @@ rises program readings m (Look t) i = omega arith
 rises program readings m (Commit t) i = let same = ap (λ (xs : List SourceModel). (get_or xs i no_source).next) (commit-sources program t.0 m) in omega arith
 rises program readings m (Release t) i = omega arith
 
-pub rises_after : (program : Program) (readings : Readings) (m : Model) (entries : List Entry) (i : ℕ) → (source_of m i).next ≤ (source_of (after program readings m entries) i).next
+pub rises_after : (program : Program) (readings : Readings) (m : Model) (entries : List Entry) (i : ℕ) →
+    (source_of m i).next ≤ (source_of (after program readings m entries) i).next
 rises_after program readings m [] i = omega arith
-rises_after program readings m (e ∷ entries) i = let one = rises program readings m e i in let more = rises_after program readings (effect program readings m e) entries i in omega arith
+rises_after program readings m (e ∷ entries) i =
+    let one = rises program readings m e i in
+    let more = rises_after program readings (effect program readings m e) entries i in
+    omega arith
 
 -- an element's image
 pub image_at : (xs : List SourceModel) (i : ℕ) → get_or (map unmarked xs) i no_source ≡ unmarked (get_or xs i no_source)
@@ -74,12 +80,15 @@ image_at (x ∷ xs) (suc i) = image_at xs i
 abbrev with_sources : List SourceModel → Model → Model
 with_sources sources m = record m { sources = sources }
 
-commit_apart : (program : Program) (t : ℕ) (sources : List SourceModel) (m : Model) → commit program t (with_sources sources m) ≡ with_sources sources (commit program t m)
+commit_apart : (program : Program) (t : ℕ) (sources : List SourceModel) (m : Model) →
+    commit program t (with_sources sources m) ≡ with_sources sources (commit program t m)
 commit_apart program t sources m = by_scan m.scan
   where
     by_end : (late running : Bool) (e : Event) (time : ℕ) →
-        (record (cond late (expired t e (with_sources sources m)) (ended t e time (end_at program m t e time) (consumed running e (with_sources sources m)))) { commits = m.commits + 1; scan = None })
-        ≡ with_sources sources (record (cond late (expired t e m) (ended t e time (end_at program m t e time) (consumed running e m))) { commits = m.commits + 1; scan = None })
+        (record (cond late (expired t e (with_sources sources m))
+        (ended t e time (end_at program m t e time) (consumed running e (with_sources sources m)))) { commits = m.commits + 1; scan = None })
+        ≡ with_sources sources
+        (record (cond late (expired t e m) (ended t e time (end_at program m t e time) (consumed running e m))) { commits = m.commits + 1; scan = None })
     by_end true running e time = refl
     by_end false true e time = refl
     by_end false false e time = refl
@@ -91,7 +100,11 @@ commit_apart program t sources m = by_scan m.scan
     by_pending scan (Some e) = by_end (is_expired program m t scan.time) (is_running (thread_of m t)) e scan.time
 
     by_scan : (o : Option ScanModel) →
-        elim o [ None ↦ with_sources sources m | Some scan ↦ elim (pending program m t) [ None ↦ with_sources sources m | Some e ↦ committed program t e scan.time (with_sources sources m) ] ]
+        elim o [
+          | None ↦ with_sources sources m
+          | Some scan ↦ elim
+              (pending program m t) [ None ↦ with_sources sources m | Some e ↦ committed program t e scan.time (with_sources sources m) ]
+        ]
         ≡ with_sources sources (elim o [ None ↦ m | Some scan ↦ elim (pending program m t) [ None ↦ m | Some e ↦ committed program t e scan.time m ] ])
     by_scan None = refl
     by_scan (Some scan) = by_pending scan (pending program m t)
@@ -105,7 +118,8 @@ abbrev with_both : Model → List SourceModel → Option ScanModel → Model
 with_both m sources scan = record m { sources = sources; scan = scan }
 
 -- what a scan allows, if there is one
-in_scan : (o : Option ScanModel) (P Q : ScanModel → Type 0) → ((x : ScanModel) → P x → Q x) → elim o as (λ _. Type 0) [ None ↦ ⊥ | Some x ↦ P x ] → elim o as (λ _. Type 0) [ None ↦ ⊥ | Some x ↦ Q x ]
+in_scan : (o : Option ScanModel) (P Q : ScanModel → Type 0) → ((x : ScanModel) → P x → Q x) → elim o as (λ _. Type 0) [ None ↦ ⊥ | Some x ↦ P x ] →
+    elim o as (λ _. Type 0) [ None ↦ ⊥ | Some x ↦ Q x ]
 in_scan None P Q all may = may
 in_scan (Some x) P Q all may = all x may
 
@@ -114,7 +128,8 @@ abbrev pub AreAsMany : Program → (one two : Readings) → Type 0
 AreAsMany program one two = (i : ℕ) → i < length program.sources → length (readings_of two i) ≡ length (readings_of one i)
 
 module _ (program : Program) (one two : Readings) (floor : ℕ → ℕ) (agree : AgreeFrom floor one two) (many : AreAsMany program one two) where
-  module _ (a : Model) (bs : List SourceModel) (sc : Option ScanModel) (same : map unmarked a.sources ≡ map unmarked bs) (scan : (sc ≡ None) ⊎ (sc ≡ a.scan)) (marks : AreMarked a.sources bs) where
+  module _ (a : Model) (bs : List SourceModel) (sc : Option ScanModel) (same : map unmarked a.sources ≡ map unmarked bs)
+      (scan : (sc ≡ None) ⊎ (sc ≡ a.scan)) (marks : AreMarked a.sources bs) where
     abbrev b : Model
     b = with_both a bs sc
 
@@ -149,10 +164,12 @@ module _ (program : Program) (one two : Readings) (floor : ℕ → ℕ) (agree :
         passed : (x : ScanModel) → ArePassed program b x t.0 → ArePassed program a x t.0
         passed x all u lt higher = let one = all u lt higher in record { looked = one.looked; idle = one.idle; nothing = one.nothing }
 
-        by_scan : (sc ≡ None) ⊎ (sc ≡ a.scan) → InScan b (λ x. ArePassed program b x t.0) → IsSome (pending program b t.0) → InScan a (λ x. ArePassed program a x t.0) × IsSome (pending program a t.0)
+        by_scan : (sc ≡ None) ⊎ (sc ≡ a.scan) → InScan b (λ x. ArePassed program b x t.0) → IsSome (pending program b t.0) →
+            InScan a (λ x. ArePassed program a x t.0) × IsSome (pending program a t.0)
         by_scan (inl none) may waits = absurd (subst (λ (o : Option ScanModel). InScan (with_both a bs o) (λ x. ArePassed program b x t.0)) none may)
         by_scan (inr is) may waits = (
-          in_scan a.scan (λ x. ArePassed program b x t.0) (λ x. ArePassed program a x t.0) passed (subst (λ (o : Option ScanModel). InScan (with_both a bs o) (λ x. ArePassed program b x t.0)) is may),
+          in_scan a.scan (λ x. ArePassed program b x t.0) (λ x. ArePassed program a x t.0) passed
+              (subst (λ (o : Option ScanModel). InScan (with_both a bs o) (λ x. ArePassed program b x t.0)) is may),
           subst (λ (o : Option ScanModel). IsSome (pending program (with_both a bs o) t.0)) is waits,
         )
     legal_alike (Release t) legal = legal
@@ -167,7 +184,8 @@ module _ (program : Program) (one two : Readings) (floor : ℕ → ℕ) (agree :
     step_alike (Push i) above legal =
         let event = event_same i.0 (above i.0) in
         let s = source_same i.0 in
-        let sources = sources_set i.0 (with_accepted (source_of a i.0)) (with_accepted (source_of b i.0)) (λ k. record { next = (s k).next + 1; accepted = (s k).accepted + 1; refused = false }) in
+        let sources = sources_set i.0 (with_accepted (source_of a i.0)) (with_accepted (source_of b i.0))
+        (λ k. record { next = (s k).next + 1; accepted = (s k).accepted + 1; refused = false }) in
         record {
           same = λ k. record (without_scan (effect program one a (Push i))) {
             threads = set a.threads (source_thread program i.0) (pushed (event k) (fed_by program a i.0));
@@ -186,13 +204,15 @@ module _ (program : Program) (one two : Readings) (floor : ℕ → ℕ) (agree :
         }
     step_alike (Skip i) above legal =
         let s = source_same i.0 in
-        let sources = sources_set i.0 (with_skipped (source_of a i.0)) (with_skipped (source_of b i.0)) (λ k. record { next = (s k).next + 1; accepted = (s k).accepted; refused = false }) in
+        let sources = sources_set i.0 (with_skipped (source_of a i.0)) (with_skipped (source_of b i.0))
+        (λ k. record { next = (s k).next + 1; accepted = (s k).accepted; refused = false }) in
         record {
           same = λ k. record (without_scan a) { sources = sources k };
           scan = scan;
           marks = set_marks a.sources bs i.0 (with_skipped (source_of a i.0)) (with_skipped (source_of b i.0)) long marks (λ is. is);
         }
-    step_alike (Tick by) above legal = record { same = λ k. record (without_scan (effect program one a (Tick by))) { sources = same k }; scan = scan; marks = marks }
+    step_alike (Tick by) above legal =
+        record { same = λ k. record (without_scan (effect program one a (Tick by))) { sources = same k }; scan = scan; marks = marks }
     step_alike Scan above legal = record { same = λ k. record (without_scan a) { sources = same k }; scan = inr refl; marks = marks }
     step_alike (Look t) above legal = record { same = λ k. record (without_scan a) { sources = same k }; scan = by_scan scan legal.1; marks = marks }
       where
@@ -211,9 +231,11 @@ module _ (program : Program) (one two : Readings) (floor : ℕ → ℕ) (agree :
               scan = inr refl;
               marks = subst (λ (l : List SourceModel). AreMarked l bs) (sym (commit-sources program t.0 a)) marks;
             }))
-    step_alike (Release t) above legal = record { same = λ k. record (without_scan (effect program one a (Release t))) { sources = same k }; scan = scan; marks = marks }
+    step_alike (Release t) above legal =
+        record { same = λ k. record (without_scan (effect program one a (Release t))) { sources = same k }; scan = scan; marks = marks }
 
-  step : (a b : Model) (e : Entry) → IsAlike a b → IsAbove floor b → Legal program two b e → Legal program one a e × IsAlike (effect program one a e) (effect program two b e)
+  step : (a b : Model) (e : Entry) → IsAlike a b → IsAbove floor b → Legal program two b e →
+      Legal program one a e × IsAlike (effect program one a e) (effect program two b e)
   step a b e alike above legal =
       let is : with_both a b.sources b.scan ≡ b = λ k. record {
         threads = (alike.same k).threads;
@@ -227,7 +249,8 @@ module _ (program : Program) (one two : Readings) (floor : ℕ → ℕ) (agree :
       } in
       let sources = ap (λ (m : Model). m.sources) alike.same in
       subst (λ (m : Model). IsAbove floor m → Legal program two m e → Legal program one a e × IsAlike (effect program one a e) (effect program two m e)) is
-      (λ over may. (legal_alike a b.sources b.scan sources alike.scan alike.marks e may, step_alike a b.sources b.scan sources alike.scan alike.marks e over may)) above legal
+      (λ over may.
+      (legal_alike a b.sources b.scan sources alike.scan alike.marks e may, step_alike a b.sources b.scan sources alike.scan alike.marks e over may)) above legal
 
   -- what follows the second state legally follows the first one legally, and leads to states that are alike
   pub after_alike : (a b : Model) (entries : List Entry) → IsAlike a b → IsAbove floor b → IsLegal program two b entries →
@@ -235,5 +258,6 @@ module _ (program : Program) (one two : Readings) (floor : ℕ → ℕ) (agree :
   after_alike a b [] alike above legal = (tt, alike)
   after_alike a b (e ∷ entries) alike above legal =
       let one_more = step a b e alike above legal.0 in
-      let rest = after_alike (effect program one a e) (effect program two b e) entries one_more.1 (λ i. let more = rises program two b e i in let low = above i in omega arith) legal.1 in
+      let rest = after_alike (effect program one a e) (effect program two b e) entries one_more.1
+      (λ i. let more = rises program two b e i in let low = above i in omega arith) legal.1 in
       ((one_more.0, rest.0), rest.1)

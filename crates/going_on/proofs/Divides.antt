@@ -13,14 +13,16 @@ behind_count [] readings = refl
 behind_count (x ∷ sources) [] = let more = behind_count sources [] in omega (arith, more)
 behind_count (x ∷ sources) (values ∷ readings) = let more = behind_count sources readings in omega (arith, more)
 
-behind_each : (sources : List SourceModel) (readings : Readings) (i : ℕ) → i < length sources → readings_of (all_behind sources readings) i ≡ behind_settled (get_or sources i no_source).next (readings_of readings i)
+behind_each : (sources : List SourceModel) (readings : Readings) (i : ℕ) → i < length sources →
+    readings_of (all_behind sources readings) i ≡ behind_settled (get_or sources i no_source).next (readings_of readings i)
 behind_each [] readings i lt = absurd (omega arith)
 behind_each (x ∷ sources) [] zero lt = refl
 behind_each (x ∷ sources) [] (suc i) lt = behind_each sources [] i (omega arith)
 behind_each (x ∷ sources) (values ∷ readings) zero lt = refl
 behind_each (x ∷ sources) (values ∷ readings) (suc i) lt = behind_each sources readings i (omega arith)
 
-module _ (job : JobParts) (words : List ℕ) (front back : List Charge) (is : IsJob job) (first : AreFirstWords job.program job.start words) (charges : job.charges ≡ front ++ back) where
+module _ (job : JobParts) (words : List ℕ) (front back : List Charge) (is : IsJob job) (first : AreFirstWords job.program job.start words)
+    (charges : job.charges ≡ front ++ back) where
   abbrev d : Division
   d = divided job words front back
 

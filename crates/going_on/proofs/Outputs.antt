@@ -50,7 +50,8 @@ rise_rest x xs rise i j d le lt = rise (suc i) (suc j) d (omega arith) (omega ar
 own_rest : (x : Output) (xs : List Output) → AreOwn (x ∷ xs) → AreOwn xs
 own_rest x xs own i d lt j e less = own (suc i) d (omega arith) (suc j) e (omega arith)
 
-module _ (x y : Output) (xs ys : List Output) (rise : Rise (x ∷ xs)) (rises : Rise (y ∷ ys)) (own : AreOwn (y ∷ ys)) (same : (t : ℕ) → outputs_in t (x ∷ xs) ≡ outputs_in t (y ∷ ys)) where
+module _ (x y : Output) (xs ys : List Output) (rise : Rise (x ∷ xs)) (rises : Rise (y ∷ ys)) (own : AreOwn (y ∷ ys))
+    (same : (t : ℕ) → outputs_in t (x ∷ xs) ≡ outputs_in t (y ∷ ys)) where
   -- each first output is among the others
   there : (j : ℕ) × (j < length (y ∷ ys)) × ((d : Output) → get_or (y ∷ ys) j d ≡ x)
   there = found x.thread.0 (y ∷ ys) x (outputs_in x.thread.0 xs) (sym (same x.thread.0) ∙ own_first x xs)

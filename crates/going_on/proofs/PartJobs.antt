@@ -45,7 +45,8 @@ settled_at next readings k le =
 pub settled_right : (next : ℕ) (readings : List ℕ) → next ≤ length readings → AreReadings readings → AreReadings (behind_settled next readings)
 settled_right next readings le are = record {
   count = let most = are.count in omega (arith, settled_length next readings le, most);
-  below = All-append (λ value. value < 2 ^ 32) (replicate next 0) (drop next readings) (All-replicate (λ value. value < 2 ^ 32) next 0 (omega arith)) (All-drop (λ value. value < 2 ^ 32) next readings are.below);
+  below = All-append (λ value. value < 2 ^ 32) (replicate next 0) (drop next readings) (All-replicate (λ value. value < 2 ^ 32) next 0 (omega arith))
+      (All-drop (λ value. value < 2 ^ 32) next readings are.below);
 }
 
 -- each list of readings is right, if it is at the number of a source

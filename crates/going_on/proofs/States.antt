@@ -34,7 +34,9 @@ module _ (d : Division) (h : IsDivided d) where
   starts_alike = record {
     same = sym (start_is d h) ∙ sym twice_without;
     scan = inl (ap (λ (m : Model). m.scan) (start_is d h));
-    marks = λ i is. absurd (let clash : true ≡ false = sym is ∙ (ap (λ (m : Model). (get_or m.sources i no_source).refused) (start_is d h) ∙ no_marks (state (s d) (at_split d)).sources i) in cc);
+    marks = λ i is. absurd
+        (let clash : true ≡ false = sym is ∙
+        (ap (λ (m : Model). (get_or m.sources i no_source).refused) (start_is d h) ∙ no_marks (state (s d) (at_split d)).sources i) in cc);
   }
 
   -- what follows the start legally follows where the first part ends
@@ -42,13 +44,12 @@ module _ (d : Division) (h : IsDivided d) where
       IsLegal d.job.program d.job.readings (state (s d) (at_split d)) entries
       × IsAlike (after d.job.program d.job.readings (state (s d) (at_split d)) entries) (after d.job.program d.readings d.start.model entries)
   follows entries legal =
-      after_alike d.job.program d.job.readings d.readings (floor d h) (agree_from d h) (lengths_are d h) (state (s d) (at_split d)) d.start.model entries starts_alike (λ i. omega arith) legal
+      after_alike d.job.program d.job.readings d.readings (floor d h) (agree_from d h) (lengths_are d h)
+      (state (s d) (at_split d)) d.start.model entries starts_alike (λ i. omega arith) legal
 
   follows_first : (entries : List Entry) → IsLegal d.job.program d.readings d.start.model entries → FollowsFirst d entries
   follows_first entries legal =
-      let first : Model = (s d).first in
       let both = follows entries legal in
-      let is : state (s d) (at_split d) ≡ after d.job.program d.job.readings (s d).first (journal (first_run d)) = split_state d h.split in
       record {
         legal = legal_both d.job.program d.job.readings (s d).first (journal (first_run d)) entries
             (subst (λ l. IsLegal d.job.program d.job.readings (s d).first l) (split_journal d h.split) (stands_at d h.split 0).legal)
@@ -59,19 +60,23 @@ module _ (d : Division) (h : IsDivided d) where
             ∙ ap without_scan (sym (after_both d.job.program d.job.readings (s d).first (journal (first_run d)) entries)));
       }
 
-  stands_as : IsJob (second_part d) → (n : ℕ) → without_scan (state (setup_of (second_part d)) (second_after d n)) ≡ without_scan (state (setup_of d.job) (whole_after d n))
+  stands_as : IsJob (second_part d) → (n : ℕ) → without_scan (state (setup_of (second_part d)) (second_after d n))
+      ≡ without_scan (state (setup_of d.job) (whole_after d n))
   stands_as job n =
       (follows_first (journal (second_after d n)) (job_prefixes_stand (second_part d) d.start.words job refl n).legal).state_is
-      ∙ ap (λ (l : List Entry). without_scan (after d.job.program d.job.readings (s d).first l)) (sym (same_journal d h n) ∙ ap journal (sym (whole_is d h.split n)))
+      ∙ ap (λ (l : List Entry). without_scan (after d.job.program d.job.readings (s d).first l))
+      (sym (same_journal d h n) ∙ ap journal (sym (whole_is d h.split n)))
 
-  second_job : (listed : List ℕ) → 1 ≤ length d.back → AreListed d.job.program listed d.start.model d.readings → ¬ IsWorn d.job.program listed (words_in d.job.program d.start) → IsJob (second_part d)
+  second_job : (listed : List ℕ) → 1 ≤ length d.back → AreListed d.job.program listed d.start.model d.readings →
+      ¬ IsWorn d.job.program listed (words_in d.job.program d.start) → IsJob (second_part d)
   second_job listed some are fresh = record {
     accepted = h.split.job.accepted;
     sources = h.sources;
     readings = all_right d.readings (λ i lt.
         let there : i < length d.job.program.sources = let e = h.sources in omega arith in
         subst AreReadings (sym (h.readings i there))
-        (settled_right (floor d h i) (readings_of d.job.readings i) (floor_within d h i there) (All-get_or AreReadings d.job.readings i [] (let e = h.split.job.sources in omega arith) h.split.job.readings)));
+        (settled_right (floor d h i) (readings_of d.job.readings i) (floor_within d h i there)
+        (All-get_or AreReadings d.job.readings i [] (let e = h.split.job.sources in omega arith) h.split.job.readings)));
     charges = (back_job d h.split some).charges;
     start = λ start is.
         subst (λ x. IsStart d.job.program d.readings x) (some_is d.start start is)

@@ -49,7 +49,8 @@ same_output a b is small low own =
     λ k. record { stamp = stamp k; thread = record { 0 = own k }; value = value k }
 
 -- no output is of a thread past the last
-nothing_of : (program : Program) (t : ℕ) → length program.threads ≤ t → (l : List Output) → All (IsOutputOf program) l → All (λ (o : Output). (o.thread.0 == t) ≡ true) l → l ≡ []
+nothing_of : (program : Program) (t : ℕ) → length program.threads ≤ t → (l : List Output) → All (IsOutputOf program) l →
+    All (λ (o : Output). (o.thread.0 == t) ≡ true) l → l ≡ []
 nothing_of program t past [] known of = refl
 nothing_of program t past (o ∷ l) known of = absurd (let low = (known 0 o (omega arith)).0 in let same = eqb-true _ _ (of 0 o (omega arith)) in omega arith)
 
@@ -70,7 +71,8 @@ module _ (program : Program) (words : Memory) (a b : Model) (accepted : IsAccept
         ext_get_or 0 (thread_of a t).state (thread_of b t).state (one.shape.states t known ∙ sym (two.shape.states t known))
         (λ k lt. sym (number_is a one.private k) ∙ number_is b two.private k)
 
-    event_same : (e f : Event) → (thread_of a t).event ≡ Some e → (thread_of b t).event ≡ Some f → IsOwnOrigin program t e.origin → IsOwnOrigin program t f.origin → e ≡ f
+    event_same : (e f : Event) → (thread_of a t).event ≡ Some e → (thread_of b t).event ≡ Some f → IsOwnOrigin program t e.origin →
+        IsOwnOrigin program t f.origin → e ≡ f
     event_same e f has holds own owns =
         let left = event_words program words a t e known one.private has in
         let right = event_words program words b t f known two.private holds in
@@ -111,7 +113,8 @@ module _ (program : Program) (words : Memory) (a b : Model) (accepted : IsAccept
 
     -- the outputs of the thread
     output_is : (m : Model) → IsTold program words m → (n : ℕ) (d : Output) → n < length (outputs_of m t) →
-        (words (Log t n) ≡ output_word (get_or (outputs_of m t) n d)) × ((get_or (outputs_of m t) n d).value < 2 ^ 32) × ((get_or (outputs_of m t) n d).thread.0 ≡ t)
+        (words (Log t n) ≡ output_word (get_or (outputs_of m t) n d)) × ((get_or (outputs_of m t) n d).value < 2 ^ 32) ×
+        ((get_or (outputs_of m t) n d).thread.0 ≡ t)
     output_is m told n d lt = (
       (told.private.threads t known).log n lt ∙ get_or-map output_word (outputs_of m t) n d 0 lt,
       (All-filter (λ (o : Output). o.thread.0 == t) (IsOutputOf program) m.outputs told.outputs n d lt).1,
@@ -121,7 +124,8 @@ module _ (program : Program) (words : Memory) (a b : Model) (accepted : IsAccept
     outputs_same : outputs_of a t ≡ outputs_of b t
     outputs_same =
         let d : Output = record { stamp = 0; thread = record { 0 = 0 }; value = 0 } in
-        let long : length (outputs_of a t) ≡ length (outputs_of b t) = sym (outputs_word program words a t known one.private) ∙ outputs_word program words b t known two.private in
+        let long : length (outputs_of a t) ≡ length (outputs_of b t) = sym (outputs_word program words a t known one.private)
+        ∙ outputs_word program words b t known two.private in
         ext_get_or d (outputs_of a t) (outputs_of b t) long
         (λ n lt.
         let x = output_is a one n d lt in
@@ -130,7 +134,8 @@ module _ (program : Program) (words : Memory) (a b : Model) (accepted : IsAccept
 
   pub threads_are : ((t : ℕ) → t < length program.threads → queue_of (thread_of a t) ≡ queue_of (thread_of b t)) → a.threads ≡ b.threads
   threads_are queues =
-      ext_get_or no_thread a.threads b.threads (one.shape.threads ∙ sym two.shape.threads) (λ t lt. let known : t < length program.threads = omega (arith, one.shape.threads) in thread_is t known (queues t known))
+      ext_get_or no_thread a.threads b.threads (one.shape.threads ∙ sym two.shape.threads)
+      (λ t lt. let known : t < length program.threads = omega (arith, one.shape.threads) in thread_is t known (queues t known))
 
   module _ (q : ℕ) (known : q < length program.pipes) where
     pipe_taken : (pipe_of a q).taken ≡ (pipe_of b q).taken
@@ -140,7 +145,8 @@ module _ (program : Program) (words : Memory) (a b : Model) (accepted : IsAccept
         ∙ taken_count program words b (pipe_def program q).reader.0 q accepted reader two.private known refl
 
     pipe_length : length (pipe_of a q).items ≡ length (pipe_of b q).items
-    pipe_length = omega (arith, written_count program words a q accepted one.private known, written_count program words b q accepted two.private known, pipe_taken)
+    pipe_length = omega
+        (arith, written_count program words a q accepted one.private known, written_count program words b q accepted two.private known, pipe_taken)
 
     pipe_items : (pipe_of a q).items ≡ (pipe_of b q).items
     pipe_items =
@@ -156,8 +162,11 @@ module _ (program : Program) (words : Memory) (a b : Model) (accepted : IsAccept
   timer_is j known =
       let t : ℕ = (timer_def program j).thread.0 in
       let owner = accepted.timers j known in
-      let due = same_due _ _ (sym (timer_count program words a t j accepted owner.thread one.private known refl) ∙ timer_count program words b t j accepted owner.thread two.private known refl) in
-      let period = sym (period_count program words a t j accepted owner.thread one.private known refl) ∙ period_count program words b t j accepted owner.thread two.private known refl in
+      let due = same_due _ _
+      (sym (timer_count program words a t j accepted owner.thread one.private known refl)
+      ∙ timer_count program words b t j accepted owner.thread two.private known refl) in
+      let period = sym (period_count program words a t j accepted owner.thread one.private known refl)
+      ∙ period_count program words b t j accepted owner.thread two.private known refl in
       λ k. record { due = due k; period = period k }
 
   pub pipes_are : a.pipes ≡ b.pipes
@@ -175,7 +184,8 @@ module _ (program : Program) (words : Memory) (a b : Model) (accepted : IsAccept
       ]
     where
       none : (m : Model) → IsTold program words m → (t : ℕ) → length program.threads ≤ t → outputs_in t m.outputs ≡ []
-      none m told t past = nothing_of program t past (outputs_in t m.outputs) (All-filter (λ (o : Output). o.thread.0 == t) (IsOutputOf program) m.outputs told.outputs) (filter_passes (λ (o : Output). o.thread.0 == t) m.outputs)
+      none m told t past = nothing_of program t past (outputs_in t m.outputs)
+          (All-filter (λ (o : Output). o.thread.0 == t) (IsOutputOf program) m.outputs told.outputs) (filter_passes (λ (o : Output). o.thread.0 == t) m.outputs)
 
   pub outputs_are : AreOwn b.outputs → a.outputs ≡ b.outputs
   outputs_are own = same_outputs a.outputs b.outputs one.rise two.rise own outputs_told

@@ -75,7 +75,8 @@ module _ (d : Division) (h : IsSplit d) where
       ∙ moved_append (s d) (first_board (s d) d.words (count d)) (moves d.front) (take n (moves d.back)))
 
   pub end_is : whole_run d ≡ moved_by (s d) (at_split d) (moves d.back)
-  end_is = ap (λ (ms : List Move). moved_by (s d) (first_board (s d) d.words (count d)) ms) moves_are ∙ moved_append (s d) (first_board (s d) d.words (count d)) (moves d.front) (moves d.back)
+  end_is = ap (λ (ms : List Move). moved_by (s d) (first_board (s d) d.words (count d)) ms) moves_are
+      ∙ moved_append (s d) (first_board (s d) d.words (count d)) (moves d.front) (moves d.back)
 
   pub whole_setup : IsSetup (s d)
   whole_setup = job_setup d.job h.job
@@ -85,11 +86,13 @@ module _ (d : Division) (h : IsSplit d) where
   held n =
       let few = ticks_taken n (moves d.job.charges) in
       let range = job_range d.job h.job in
-      moves_hold (s d) (count d) (first_board (s d) d.words (count d)) (take n (moves d.job.charges)) whole_setup (first_holds (s d) d.words (count d) whole_setup (job_first d.job d.words h.job h.words))
+      moves_hold (s d) (count d) (first_board (s d) d.words (count d)) (take n (moves d.job.charges)) whole_setup
+      (first_holds (s d) d.words (count d) whole_setup (job_first d.job d.words h.job h.words))
       (moves_taken (s d) (count d) 0 n (moves d.job.charges) (job_moves d.job h.job))
       (record {
         clock = let c = range.clock in omega (arith, c, few);
-        counts = lasts_less (turns (moves d.job.charges)) (turns (take n (moves d.job.charges))) (first_of d.job) (turns_taken n (moves d.job.charges)) range.counts;
+        counts = lasts_less (turns (moves d.job.charges)) (turns (take n (moves d.job.charges))) (first_of d.job)
+            (turns_taken n (moves d.job.charges)) range.counts;
       })
 
   pub holds : (n : ℕ) → Holds (s d) (count d) (behind d n)
@@ -102,14 +105,16 @@ module _ (d : Division) (h : IsSplit d) where
   all_moves = subst (λ (ms : List Move). AreMoves (s d) (count d) 0 ms) moves_are (job_moves d.job h.job)
 
   pub more_entries : (n : ℕ) → (more : List Entry) × (journal (behind d n) ≡ journal (at_split d) ++ more)
-  more_entries n = grown (s d) (count d) (at_split d) (moves d.back) n (λ k. (holds k).size) (moves_behind (s d) (count d) (first_board (s d) d.words (count d)) (moves d.front) (moves d.back) all_moves)
+  more_entries n = grown (s d) (count d) (at_split d) (moves d.back) n (λ k. (holds k).size)
+      (moves_behind (s d) (count d) (first_board (s d) d.words (count d)) (moves d.front) (moves d.back) all_moves)
 
   pub front_job : 1 ≤ length d.front → IsJob (part d d.front)
   front_job some = record {
     accepted = h.job.accepted;
     sources = h.job.sources;
     readings = h.job.readings;
-    charges = front_charges (length d.job.program.sources) d.front d.back (subst (λ (l : List Charge). AreCharges (length d.job.program.sources) l) h.charges h.job.charges) some;
+    charges = front_charges (length d.job.program.sources) d.front d.back
+        (subst (λ (l : List Charge). AreCharges (length d.job.program.sources) l) h.charges h.job.charges) some;
     start = h.job.start;
   }
 
@@ -118,7 +123,8 @@ module _ (d : Division) (h : IsSplit d) where
     accepted = h.job.accepted;
     sources = h.job.sources;
     readings = h.job.readings;
-    charges = back_charges (length d.job.program.sources) d.front d.back (subst (λ (l : List Charge). AreCharges (length d.job.program.sources) l) h.charges h.job.charges) some;
+    charges = back_charges (length d.job.program.sources) d.front d.back
+        (subst (λ (l : List Charge). AreCharges (length d.job.program.sources) l) h.charges h.job.charges) some;
     start = h.job.start;
   }
 
@@ -137,7 +143,8 @@ module _ (d : Division) (h : IsSplit d) where
   split_is =
       let none : ChargeRecord = not_begun (length d.job.program.sources) in
       let charges : replicate (count d) none ≡ [] ++ (unbegun d d.front ++ unbegun d d.back) =
-      ap (λ n. replicate n none) (ap (λ (l : List Charge). length l) h.charges ∙ length-append d.front d.back) ∙ sym (replicate-append-replicate (length d.front) (length d.back) none) in
+      ap (λ n. replicate n none) (ap (λ (l : List Charge). length l) h.charges ∙ length-append d.front d.back)
+      ∙ sym (replicate-append-replicate (length d.front) (length d.back) none) in
       ap (λ (l : List ChargeRecord). moved_by (s d) (record (first_board (s d) d.words (count d)) { charges = l }) (moves d.front)) charges
       ∙ part_moves [] (unbegun d d.back) (s d) d.job.readings (s d).first (first_board (s d) d.words (length d.front)) (moves d.front) (omega arith)
       (subst (λ n. AreMoves (s d) n 0 (moves d.front)) (sym (length-replicate (length d.front) none)) front_moves)

@@ -50,7 +50,8 @@ StartsFromWhole = (d : Division) → IsDivided d → d.start.model ≡ without_s
 pub record FollowsFirst (d : Division) (entries : List Entry) : Type 0 where
   pub legal : IsLegal d.job.program d.job.readings (first_of d.job) (journal (first_run d) ++ entries)
   pub state_is :
-      without_scan (after d.job.program d.readings d.start.model entries) ≡ without_scan (after d.job.program d.job.readings (first_of d.job) (journal (first_run d) ++ entries))
+      without_scan (after d.job.program d.readings d.start.model entries)
+      ≡ without_scan (after d.job.program d.job.readings (first_of d.job) (journal (first_run d) ++ entries))
 
 -- so it is of whatever follows the start legally
 abbrev pub ContinuesWhole : Type 0
@@ -66,4 +67,5 @@ StandsAsWhole =
 abbrev pub AreJobs : Type 0
 AreJobs =
     (d : Division) → IsDivided d → (1 ≤ length d.front → IsJob (first_part d)) ×
-    ((listed : List ℕ) → 1 ≤ length d.back → AreListed d.job.program listed d.start.model d.readings → ¬ IsWorn d.job.program listed (words_in d.job.program d.start) → IsJob (second_part d))
+    ((listed : List ℕ) → 1 ≤ length d.back → AreListed d.job.program listed d.start.model d.readings →
+    ¬ IsWorn d.job.program listed (words_in d.job.program d.start) → IsJob (second_part d))
