@@ -9,6 +9,7 @@ use Rattle.fram_words.specs.Places.{Memory, Log, Ring, Clock}
 use Rattle.fram_words.specs.Header as header
 use Rattle.fram_words.specs.Held.{running_of, origin_of, due_of, output_of}
 use Rattle.thread_state.specs.Pages.{committed}
+use Rattle.ink_layout.specs.Shape.{shape_of, words_of}
 use Rattle.prog_check.specs.Lookup.{thread_def, pipe_def, timer_def}
 use Rattle.never_cut.specs.declared.model.Model.{Model}
 use Rattle.never_cut.specs.declared.thread_model.ThreadModel.{ThreadModel}
@@ -17,8 +18,14 @@ use Rattle.never_cut.specs.declared.timer_model.TimerModel.{TimerModel}
 use Rattle.never_cut.specs.declared.source_model.SourceModel.{SourceModel}
 use Rattle.never_cut.specs.State.{source_model}
 use Rattle.never_cut.specs.Outputs.{outputs_in}
-use Rattle.never_cut.specs.Image.{taken_of, written_of}
+use Rattle.never_cut.specs.Image.{IsImage, taken_of, written_of}
 use Rattle.never_cut.specs.ReadOff.{told_held, told_finished, told_released, told_source}
+use Rattle.image_state.specs.Words.{by_place}
+
+-- The words are those of an image of the program.
+pub record IsImageOf (program : Program) (words : List ℕ) : Type 0 where
+  pub count : length words ≡ words_of (shape_of program)
+  pub image : IsImage program (by_place program words)
 
 -- the value of f at each number below a count
 abbrev pub each_below : {X : Type 0} → (ℕ → X) → (count : ℕ) → List X

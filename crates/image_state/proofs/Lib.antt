@@ -1,0 +1,7 @@
+mod Common
+pub mod Blocks
+pub mod Logs
+pub mod Merged
+pub mod Pages
+pub mod States
+pub mod Threads
