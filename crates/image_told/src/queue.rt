@@ -1,9 +1,13 @@
 //! The queue of a thread: its slots, and how many of its events are released.
 
-ghost use Rattle.std.specs.Prelude.{◌≡◌, ◌<◌, ◌^◌, ◌==◌, ◌&&◌, nat_lt, length, IfSome};
+ghost use Rattle.std.specs.Prelude.{◌≡◌, ◌<◌, ◌^◌, ◌==◌, ◌&&◌, nat_lt, length};
+ghost use Rattle.std.specs.Option.{ForSome};
 ghost use Rattle.prog_check.specs.Lookup.{source_thread};
 ghost use Rattle.fram_words.specs.Shape.{memory_of};
-ghost use Rattle.ink_layout.specs.Shape.{shape_of, words_of};
+ghost use Rattle.fram_words.specs.Steps.{place_of};
+ghost use Rattle.push_core.specs.Slots.{IsSlot, word_of};
+ghost use Rattle.ink_layout.specs.Shape.{IsOnBoard, shape_of, words_of};
+ghost use Rattle.ink_layout.specs.Slots.{slot_place};
 ghost use Rattle.never_cut.specs.ReadOff as told;
 
 use crate::words::{header_word, word_at};
@@ -12,15 +16,37 @@ use ink_base::{Event, Origin, SourceId, ThreadId};
 use ink_layout::Plan;
 use push_core::{Slot, read_slot};
 
+/// The thread that a source feeds.
+pub fn fed(plan: &Plan, source: SourceId) -> ThreadId
+    requires { source.0 < length plan.now.accepted.sources }
+    ensures thread { result.0 ≡ source_thread plan.now.accepted source.0 }
+    ensures known { result.0 < length plan.now.accepted.threads }
+{
+    plan.program().sources.as_slice()[source.0 as usize]
+}
+
 /// What the slot of a position holds, in the queue of a thread; none where it is no slot's word.
 pub fn slot_of(plan: &Plan, words: &[u64], thread: ThreadId, position: u64) -> Option<Slot>
     requires count { length words.now ≡ words_of (shape_of plan.now.accepted) }
     requires known { thread.0 < length plan.now.accepted.threads }
-    ensures { result ≡ told.slot_of plan.now.accepted (memory_of (shape_of plan.now.accepted) words.now) thread.0 position }
+    ensures computed { result ≡ told.slot_of plan.now.accepted (memory_of (shape_of plan.now.accepted) words.now) thread.0 position }
+    ensures read { let memory = memory_of (shape_of plan.now.accepted) words.now in
+        ForSome result (λ slot. IsSlot slot × (word_of slot ≡ memory (slot_place plan.now.accepted thread.0 position))) }
+{
+    read_slot(word_at(plan, words, slot_place(plan, thread, position)))
+}
+
+/// The slot of a position.
+pub fn slot_place(plan: &Plan, thread: ThreadId, position: u64) -> Place
+    requires { thread.0 < length plan.now.accepted.threads }
+    ensures place { place_of result ≡ slot_place plan.now.accepted thread.0 position }
+    ensures there { IsOnBoard plan.now.accepted (place_of result) }
 {
     let places = plan.program().threads.as_slice()[thread.0 as usize].queue;
-    let index = (position % places as u64) as u32;
-    read_slot(word_at(plan, words, Place::Slot { thread, index }))
+    Place::Slot {
+        thread,
+        index: (position % places as u64) as u32,
+    }
 }
 
 /// The event of a slot, where it is a full one of this position from a source of the thread.
@@ -65,7 +91,7 @@ pub fn event_at(plan: &Plan, words: &[u64], thread: ThreadId, position: u64) -> 
     requires known { thread.0 < length plan.now.accepted.threads }
     ensures event { let memory = memory_of (shape_of plan.now.accepted) words.now in
         result ≡ told.event_in plan.now.accepted thread.0 position (told.slot_of plan.now.accepted memory thread.0 position) }
-    ensures small { IfSome result (λ event. position < 2 ^ 21) }
+    ensures small { ForSome result (λ event. position < 2 ^ 21) }
 {
     event_in(
         plan,

@@ -7,12 +7,19 @@ ghost use Rattle.ink_layout.specs.Shape.{shape_of, words_of};
 ghost use Rattle.never_cut.specs.Image.{held_for};
 ghost use Rattle.never_cut.specs.ReadOff as told;
 
-use crate::held::{held_count, held_event};
-use crate::told_source::ToldSource;
+use crate::events::{held_count, held_event};
+use crate::queue::fed;
 use crate::words::word_at;
 use fram_words::{Place, read_src};
 use ink_base::{Event, Origin, SourceId};
 use ink_layout::Plan;
+
+/// How many of a source's readings are settled, which is the number of the next one, and how many of them are accepted.
+#[derive(Clone, Copy, Debug, PartialEq, Eq)]
+pub struct ToldSource {
+    pub next: u64,
+    pub accepted: u64,
+}
 
 /// Whether the source has settled one more reading than its SRC says: its event is held, or its ACK counts it.
 pub fn is_one_more(plan: &Plan, words: &[u64], source: SourceId) -> bool
@@ -32,7 +39,7 @@ fn holds_number(plan: &Plan, words: &[u64], source: SourceId, number: u32) -> bo
     ensures { let memory = memory_of (shape_of plan.now.accepted) words.now in
         result ≡ list_any (told.has_number source.0 number) (held_for plan.now.accepted memory source.0) }
 {
-    let thread = plan.program().sources.as_slice()[source.0 as usize];
+    let thread = fed(plan, source);
     for k in 0..held_count(plan, words, thread) {
         if let Some(event) = held_event(plan, words, thread, k) {
             if has_number(source, number, event) {

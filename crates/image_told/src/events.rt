@@ -8,7 +8,7 @@ ghost use Rattle.push_core.specs.Queue.{event_source, published as published_in}
 ghost use Rattle.never_cut.specs.ReadOff.{told_held, told_queue};
 ghost use Rattle.never_cut.specs.Image as image;
 
-use crate::queue::{event_at, released};
+use crate::queue::{event_at, fed, released};
 use ink_base::{Event, NoMemory, Origin, SourceId, ThreadId};
 use ink_layout::Plan;
 use std::alloc::Global;
@@ -20,16 +20,14 @@ pub fn held_count(plan: &Plan, words: &[u64], thread: ThreadId) -> u32
     ensures number { result ≡ length (told_held plan.now.accepted (memory_of (shape_of plan.now.accepted) words.now) thread.0) }
     ensures few { result ≤ (thread_def plan.now.accepted thread.0).queue }
 {
-    let mut held = 0;
-    let places = plan.program().threads.as_slice()[thread.0 as usize].queue;
+    let places = plan.program().threads.as_slice()[thread.0 as usize].queue as u32;
     let first = released(plan, words, thread);
-    while held < places as u32 {
-        if event_at(plan, words, thread, first + held as u64).is_none() {
-            break;
+    for k in 0..places {
+        if event_at(plan, words, thread, first + k as u64).is_none() {
+            return k;
         }
-        held += 1;
     }
-    held
+    places
 }
 
 /// How many events were published in the thread's queue: those that are released, and those that it holds.
@@ -86,7 +84,7 @@ pub fn own_before(plan: &Plan, words: &[u64], source: SourceId, place: u32) -> u
     ensures { let memory = memory_of (shape_of plan.now.accepted) words.now in
         result ≡ image.own_events source.0 (take place (image.held_for plan.now.accepted memory source.0)) }
 {
-    let thread = plan.program().sources.as_slice()[source.0 as usize];
+    let thread = fed(plan, source);
     let mut own = 0;
     for k in 0..place {
         if let Some(event) = held_event(plan, words, thread, k) {
@@ -105,7 +103,7 @@ pub fn own_events(plan: &Plan, words: &[u64], source: SourceId) -> u32
     ensures { let memory = memory_of (shape_of plan.now.accepted) words.now in
         result ≡ image.own_events source.0 (image.held_for plan.now.accepted memory source.0) }
 {
-    let thread = plan.program().sources.as_slice()[source.0 as usize];
+    let thread = fed(plan, source);
     own_before(plan, words, source, held_count(plan, words, thread))
 }
 

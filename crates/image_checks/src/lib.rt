@@ -1,0 +1,13 @@
+//! The checks of an image: whether the words of a board are one, and the place at which they fail to be.
+#![tactic(auto)]
+
+mod blocks;
+mod chains;
+mod code;
+mod first;
+mod headers;
+mod logs;
+mod pipes;
+mod shared;
+
+pub use first::first_failing;
