@@ -4,4 +4,4 @@ pub mod Logs
 pub mod Merged
 pub mod Pages
 pub mod States
-pub mod Threads
+pub mod ThreadWords

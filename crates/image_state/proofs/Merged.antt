@@ -1,19 +1,49 @@
 -- A stable sort by stamps leaves the outputs of each thread as they stand in its log.
-use Rattle.image_state.proofs.Common.{◌≡◌, ◌≢◌, inl, inr, ℕ, zero, suc, ◌+◌, ◌<◌, ◌≤◌, ◌==◌, Bool, true, false, cond, List, [], ◌∷◌, length, get_or, refl, sym, ap, ◌∙◌, subst, arith, nat_lt, filter, All, cases_lt, cases_Bool, Output, IsNonDecreasingBy, IsPermutation, outputs_in, AreInOrder}
+use Rattle.image_state.proofs.Common.{◌≡◌, ◌≢◌, inl, inr, ℕ, zero, suc, ◌+◌, ◌<◌, ◌≤◌, ◌==◌, Bool, true, false, cond, List, [], ◌∷◌, length, get_or, refl, sym, ap, ◌∙◌, subst, arith, nat_lt, le-ltb, lt-ltb, filter, All, cases_lt, cases_Bool, Output, IsNonDecreasingBy, IsPermutation, outputs_in, AreInOrder}
+use Rattle.std.specs.List.Sorted.{IsStableByKey, ties}
+use Rattle.std.specs.Ordering.{is_lt, nat_cmp}
 use Rattle.std.proofs.lemmas.List.Kept.{IsNonDecreasingBy-filter}
+
+-- what a comparison of numbers tells
+is_less : (a b : ℕ) → a < b → is_lt (nat_cmp a b) ≡ true
+is_less a b less = rw (lt-ltb a b less) refl
+
+not_less : (a b : ℕ) → b ≤ a → is_lt (nat_cmp a b) ≡ false
+not_less a b le = rw (le-ltb a b le) (elim (cases_Bool (a == b)) [ inl same ↦ rw same refl | inr other ↦ rw other refl ])
+
+-- an output comes before another by its stamp
+abbrev less_stamp : Output → Output → Bool
+less_stamp x y = is_lt (nat_cmp x.stamp y.stamp)
+
+-- outputs tie where their stamps are the same
+stamps_tie : (x y : Output) → x.stamp ≡ y.stamp → ties less_stamp x y ≡ true
+stamps_tie x y same =
+    let before : less_stamp x y ≡ false = not_less x.stamp y.stamp (omega (arith, same)) in
+    let behind : less_stamp y x ≡ false = not_less y.stamp x.stamp (omega (arith, same)) in
+    rw (before, behind) refl
+
+stamps_apart : (x y : Output) → x.stamp ≢ y.stamp → ties less_stamp x y ≡ false
+stamps_apart x y other =
+    elim (cases_lt x.stamp y.stamp) [
+      | inl less ↦ let before : less_stamp x y ≡ true = is_less x.stamp y.stamp less in rw before refl
+      | inr ge ↦
+          let before : less_stamp x y ≡ false = not_less x.stamp y.stamp ge in
+          let behind : less_stamp y x ≡ true = is_less y.stamp x.stamp (omega (arith, ge, other)) in
+          rw (before, behind) refl
+    ]
 
 -- two tests keep the same in either order
 pub filter-swap : {X : Type 0} (p q : X → Bool) (xs : List X) → filter p (filter q xs) ≡ filter q (filter p xs)
 filter-swap p q [] = refl
 filter-swap p q (x ∷ xs) =
     elim (cases_Bool (p x)) [
-      | inl yes ↦ elim (cases_Bool (q x)) [
-        | inl also ↦ rw (also, yes, also) (ap (λ l. x ∷ l) (filter-swap p q xs))
-        | inr not ↦ rw (not, yes, not) (filter-swap p q xs)
+      | inl holds ↦ elim (cases_Bool (q x)) [
+        | inl also ↦ rw (also, holds, also) (ap (λ l. x ∷ l) (filter-swap p q xs))
+        | inr not ↦ rw (not, holds, not) (filter-swap p q xs)
       ]
-      | inr no ↦ elim (cases_Bool (q x)) [
-        | inl also ↦ rw (also, no, no) (filter-swap p q xs)
-        | inr not ↦ rw (not, no) (filter-swap p q xs)
+      | inr fails ↦ elim (cases_Bool (q x)) [
+        | inl also ↦ rw (also, fails) (filter-swap p q xs)
+        | inr not ↦ rw (not, fails) (filter-swap p q xs)
       ]
     ]
 
@@ -25,8 +55,8 @@ module _ {X : Type 0} (n : X → ℕ) (p : X → X → Bool) (tie : (x y : X) �
   none_ties : (x : X) (ys : List X) → ((k : ℕ) (d : X) → k < length ys → n x < n (get_or ys k d)) → filter (p x) ys ≡ []
   none_ties x [] less = refl
   none_ties x (y ∷ ys) less =
-      let no : p x y ≡ false = apart x y (λ e. let lt = less 0 y (omega arith) in omega (arith, e, lt)) in
-      rw no (none_ties x ys (λ k d lt. less (suc k) d (omega arith)))
+      let apart_here : p x y ≡ false = apart x y (λ e. let lt = less 0 y (omega arith) in omega (arith, e, lt)) in
+      rw apart_here (none_ties x ys (λ k d lt. less (suc k) d (omega arith)))
 
   -- a first element that is less than all of the other list has no like there
   no_less : (x y : X) (xs ys : List X) → IsNonDecreasingBy n (y ∷ ys) → n x < n y → filter (p x) (x ∷ xs) ≡ filter (p x) (y ∷ ys) → ⊥
@@ -76,3 +106,12 @@ module _ {X : Type 0} (n : X → ℕ) (p : X → X → Bool) (tie : (x y : X) �
   part_kept q xs ys rise same up =
       same_likes (filter q ys) (filter q xs) (IsNonDecreasingBy-filter n q ys rise) up
       (λ x. filter-swap (p x) q ys ∙ (ap (filter q) (same x) ∙ filter-swap q (p x) xs))
+
+-- a stable sort by stamps puts outputs in order
+pub sorted_stably : (logged outputs : List Output) → IsPermutation logged outputs → IsNonDecreasingBy (λ (o : Output). o.stamp) outputs →
+    IsStableByKey (λ (o : Output). o.stamp) nat_cmp logged outputs → AreInOrder logged outputs
+sorted_stably logged outputs same rises stable = record {
+  same = same;
+  ordered = rises;
+  kept = λ t up. part_kept (λ (o : Output). o.stamp) (ties less_stamp) stamps_tie stamps_apart (λ (o : Output). o.thread.0 == t) logged outputs rises stable up;
+}

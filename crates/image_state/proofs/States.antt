@@ -3,7 +3,7 @@ use Rattle.image_state.proofs.Common.{◌≡◌, inl, inr, ℕ, ◌+◌, ◌-◌
 use Rattle.fram_words.specs.Header as header
 use Rattle.image_state.proofs.Blocks.{AreWords, block_says}
 use Rattle.image_state.proofs.Logs.{count_is, output_is, each_told, in_logs, outputs_right, log_rises}
-use Rattle.image_state.proofs.Threads.{next_back, due_back, ended_back, checked, idle_told, chain_told, words_told, state_told}
+use Rattle.image_state.proofs.ThreadWords.{next_back, due_back, ended_back, checked, idle_told, chain_told, words_told, state_told}
 
 module _ (program : Program) (words : Memory) (m : Model) (accepted : IsAccepted program) (image : IsImage program words)
     (beyond : (t w : ℕ) → t < length program.threads → 8 * pages_of (thread_def program t) ≤ w → committed words t w ≡ 0) (told : IsTold program words m) where

@@ -74,7 +74,7 @@ fn output_told(plan: &Plan, words: &[u64], thread: ThreadId, index: u32) -> Outp
 
 // These outputs in the order of their stamps.
 fn in_order(outputs: Vec<Output>) -> Result<Vec<Output>, NoMemory>
-    ensures { IfOk result (AreInOrder outputs.items) }
+    ensures { IfOk result (λ sorted. AreInOrder outputs.items sorted.items) }
 {
     let mut sorted = outputs;
     sorted.sort_by_key(|output| output.stamp)?;

@@ -1,6 +1,6 @@
 //! The state that an image tells.
 
-ghost use Rattle.std.specs.Prelude.{◌≡◌, ◌×◌, ℕ, List, length, IfOk};
+ghost use Rattle.std.specs.Prelude.{◌≡◌, ℕ, List, length, IfOk};
 ghost use Rattle.ink_layout.specs.Shape.{shape_of, words_of};
 ghost use Rattle.never_cut.specs.Image.{IsImage};
 ghost use Rattle.never_cut.specs.ReadOff.{IsReadOff};
