@@ -5,11 +5,11 @@ ghost use Rattle.std.specs.Option.{ForSome, ForNone};
 ghost use Rattle.fram_words.specs.Header as header;
 ghost use Rattle.prog_check.specs.Lookup.{thread_def};
 ghost use Rattle.ink_layout.specs.Shape.{shape_of, words_of};
-ghost use Rattle.never_cut.specs.Stands as parts;
 ghost use Rattle.image_checks.specs.Board.{board};
 ghost use Rattle.image_checks.specs.kept.Headers.{IsRightHeader};
 
 use crate::chains::{is_next_word, is_origin_word, is_value_word};
+use crate::owners::{owns, reads, writes};
 use fram_words::{Header, Place};
 use image_told::{header_word, word_at};
 use ink_base::ThreadId;
@@ -79,34 +79,4 @@ fn log_len(plan: &Plan, thread: ThreadId) -> u16
     ensures { result ≡ (thread_def plan.now.accepted thread.0).log }
 {
     plan.program().threads.as_slice()[usize::from(thread.0)].log
-}
-
-// Whether a thread writes the pipe of a number.
-fn writes(plan: &Plan, thread: ThreadId, pipe: u32) -> bool
-    ensures { result ≡ parts.writes_pipe plan.now.accepted thread.0 pipe }
-{
-    match plan.program().pipes.as_slice().get(pipe as usize) {
-        Some(pipe) => pipe.writer == thread,
-        None => false,
-    }
-}
-
-// Whether it reads the pipe.
-fn reads(plan: &Plan, thread: ThreadId, pipe: u32) -> bool
-    ensures { result ≡ parts.reads_pipe plan.now.accepted thread.0 pipe }
-{
-    match plan.program().pipes.as_slice().get(pipe as usize) {
-        Some(pipe) => pipe.reader == thread,
-        None => false,
-    }
-}
-
-// Whether the timer of a number is its own.
-fn owns(plan: &Plan, thread: ThreadId, timer: u32) -> bool
-    ensures { result ≡ parts.owns_timer plan.now.accepted thread.0 timer }
-{
-    match plan.program().timers.as_slice().get(timer as usize) {
-        Some(timer) => timer.thread == thread,
-        None => false,
-    }
 }
