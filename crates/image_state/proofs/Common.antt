@@ -1,5 +1,5 @@
 -- The names that several proofs of this crate cite, passed on from one place. Declares nothing.
-pub use Rattle.std.proofs.Common.{All, Bool, List, None, Option, Some, [], ap, append-nil, arith, cond, eqb-true, false, filter, get_or, if◌then◌else◌, inl, inr, le-ltb, length, lt-ltb, ltb-true, map, nat_lt, refl, rules, slice_index, subst, suc, sym, take, true, zero, ℕ, ◌%◌, ◌&&◌, ◌*◌, ◌++◌, ◌+◌, ◌-◌, ◌/◌, ◌<◌, ◌==◌, ◌^◌, ◌∙◌, ◌∷◌, ◌≡◌, ◌≢◌, ◌≤◌, ◌⊎◌}
+pub use Rattle.std.proofs.Common.{All, Bool, List, None, Option, Some, [], ap, append-nil, append_assoc, arith, cond, eqb-true, false, filter, get_or, if◌then◌else◌, inl, inr, le-ltb, length, lt-ltb, ltb-true, map, nat_lt, refl, rules, slice_index, subst, suc, sym, take, true, zero, ℕ, ◌%◌, ◌&&◌, ◌*◌, ◌++◌, ◌+◌, ◌-◌, ◌/◌, ◌<◌, ◌==◌, ◌^◌, ◌∙◌, ◌∷◌, ◌≡◌, ◌≢◌, ◌≤◌, ◌⊎◌}
 pub use Rattle.std.proofs.lemmas.Bool.{and_parts, cases_Bool, cases_eq, cases_lt, eq-eqb, ne_eqb}
 pub use Rattle.std.proofs.lemmas.List.{get_or-map, get_or_past}
 pub use Rattle.std.proofs.lemmas.List.Elements.{All-append, All-nil, filter-append}
@@ -25,6 +25,7 @@ pub use Rattle.never_cut.specs.ReadOff.{HasEventOf, IsOutputOf, IsReadOff, told_
 pub use Rattle.never_cut.specs.Sound.{HasShape}
 pub use Rattle.never_cut.specs.Stands.{AreLogged, Saved, StandsPipe, StandsPrivate, StandsThread, flag, log_of, owns_timer, period_word, reads_pipe, saved, taken_word, timer_word, writes_pipe, written_word}
 pub use Rattle.never_cut.specs.State.{no_pipe, no_source, no_thread, no_timer, pipe_of, queue_of, source_in, source_of, thread_of, timer_of}
+pub use Rattle.never_cut.specs.Worn.{IsWorn, LateClock, ManyCommits, ManyPositions, ManyReadings, ManyServices, ManyTaken, ManyWritten, listed_into}
 pub use Rattle.never_cut.specs.declared.model.Model.{Model}
 pub use Rattle.never_cut.specs.declared.pipe_model.PipeModel.{PipeModel}
 pub use Rattle.never_cut.specs.declared.source_model.SourceModel.{SourceModel}
@@ -36,4 +37,5 @@ pub use Rattle.task_isa.specs.declared.program.Program.{Program}
 pub use Rattle.task_isa.specs.declared.program.ThreadDef.{ThreadDef}
 pub use Rattle.thread_state.specs.Pages.{committed, place_in}
 pub use Rattle.image_state.specs.Words.{by_place}
-pub use Rattle.image_state.specs.kept.Told.{AreInOrder, IsTold, each_below, outputs_until, state_number, told_event, told_item, told_output, told_outputs, told_pipe, told_source_model, told_thread, told_timer}
+pub use Rattle.image_state.specs.kept.Fresh.{HasFewSettled, IsFresh, IsFreshPipe, IsFreshSource, IsFreshThread}
+pub use Rattle.image_state.specs.kept.Told.{AreInOrder, IsNewest, IsTold, each_below, outputs_until, state_number, told_event, told_item, told_output, told_outputs, told_pipe, told_source_model, told_thread, told_timer}

@@ -1,5 +1,6 @@
 mod Common
 pub mod Blocks
+pub mod Each
 pub mod Logs
 pub mod Merged
 pub mod Pages
