@@ -1,6 +1,7 @@
 -- When the words of a block are those of a thread.
 use Rattle.image_state.proofs.Common.{◌≡◌, inl, inr, ℕ, zero, suc, ◌+◌, ◌-◌, ◌*◌, ◌/◌, ◌%◌, ◌<◌, ◌≤◌, length, refl, sym, ◌∙◌, subst, arith, slice_index, cases_lt, next_word, Saved}
 use Rattle.never_cut.specs.Stands.{thread_words}
+use Rattle.ink_base.specs.declared.limits.TheConstants as limits
 use Rattle.fram_words.specs.Header as header
 use Rattle.never_cut.proofs.Blocks.{written_at, taken_at, due_at, period_at, unused_at, state_at}
 
@@ -13,10 +14,10 @@ pub record AreWords (f : ℕ → ℕ) (y : Saved) : Type 0 where
   pub trapped : f header.trapped ≡ y.trapped
   pub expired : f header.expired ≡ y.expired
   pub outputs : f header.outputs ≡ length y.outputs
-  pub written : (q : ℕ) → q < 8 → f (header.written q) ≡ y.written q
-  pub taken : (q : ℕ) → q < 8 → f (header.taken q) ≡ y.taken q
-  pub due : (j : ℕ) → j < 8 → f (header.due j) ≡ y.due j
-  pub period : (j : ℕ) → j < 8 → f (header.period j) ≡ y.period j
+  pub written : (q : ℕ) → q < limits.PIPES → f (header.written q) ≡ y.written q
+  pub taken : (q : ℕ) → q < limits.PIPES → f (header.taken q) ≡ y.taken q
+  pub due : (j : ℕ) → j < limits.TIMERS → f (header.due j) ≡ y.due j
+  pub period : (j : ℕ) → j < limits.TIMERS → f (header.period j) ≡ y.period j
   pub unused : (w : ℕ) → header.due 8 ≤ w → w < header.words → f w ≡ 0
   pub state : (w : ℕ) → header.words ≤ w → f w ≡ slice_index y.state (w - header.words)
 
@@ -45,12 +46,12 @@ module _ (f : ℕ → ℕ) (y : Saved) (are : AreWords f y) where
       elim (cases_lt w (header.taken 0)) [
         | inl lt ↦
             let q : ℕ = w - header.written 0 in
-            let few : q < 8 = omega arith in
+            let few : q < limits.PIPES = omega arith in
             let at : header.written q ≡ w = omega arith in
             subst Says at (are.written q few ∙ sym (written_at y (f header.stamp) (f header.origin) (f header.value) q few))
         | inr ge ↦
             let q : ℕ = w - header.taken 0 in
-            let few : q < 8 = omega arith in
+            let few : q < limits.PIPES = omega arith in
             let at : header.taken q ≡ w = omega arith in
             subst Says at (are.taken q few ∙ sym (taken_at y (f header.stamp) (f header.origin) (f header.value) q few))
       ]
@@ -59,7 +60,7 @@ module _ (f : ℕ → ℕ) (y : Saved) (are : AreWords f y) where
   unfolding Says
   timer_words w from below =
       let j : ℕ = (w - header.due 0) / 2 in
-      let few : j < 8 = omega arith in
+      let few : j < limits.TIMERS = omega arith in
       elim (cases_lt w (header.period j)) [
         | inl lt ↦
             let at : header.due j ≡ w = omega arith in

@@ -1,5 +1,6 @@
 -- The state that the words of an image tell is the one that is read off them.
 use Rattle.image_state.proofs.Common.{◌≡◌, inl, inr, ℕ, ◌+◌, ◌-◌, ◌*◌, ◌%◌, ◌^◌, ◌<◌, ◌≤◌, ◌==◌, Bool, true, false, if◌then◌else◌, nat_lt, List, length, Option, Some, None, refl, sym, ap, ◌∙◌, subst, arith, cases_Bool, and_parts, ltb-true, eqb-true, slice_index, map, get_or-map, get_or-map-range_with_len, length-map-range_with_len, All, All-permutation, ForSome, ForNone, Event, Output, Program, Memory, Commit, Log, Ring, next_word, origin_word, due_word, due_of, output_word, committed, pages_of, thread_def, pipe_def, timer_def, IsAccepted, Model, ThreadModel, PipeModel, TimerModel, SourceModel, thread_of, pipe_of, timer_of, source_of, no_thread, no_pipe, no_timer, no_source, queue_of, source_in, outputs_of, outputs_in, IsNonDecreasingBy, HasEventOf, HasShape, IsOwnOrigin, IsOutputOf, IsReadOff, IsImage, Saved, saved, flag, writes_pipe, reads_pipe, owns_timer, written_word, taken_word, timer_word, period_word, StandsThread, StandsPipe, StandsPrivate, AreLogged, log_of, taken_of, written_of, told_item, told_pipe, told_timer, told_thread, told_source_model, told_output, told_outputs, outputs_until, state_number, each_below, IsTold}
+use Rattle.ink_base.specs.declared.limits.TheConstants as limits
 use Rattle.fram_words.specs.Header as header
 use Rattle.image_state.proofs.Blocks.{AreWords, block_says}
 use Rattle.image_state.proofs.Logs.{count_is, output_is, each_told, in_logs, outputs_right, log_rises}
@@ -42,7 +43,7 @@ module _ (program : Program) (words : Memory) (m : Model) (accepted : IsAccepted
   taken_is q known = ap (λ (p : PipeModel). p.taken) (pipe_is q known)
 
   module _ (t : ℕ) (known : t < length program.threads) where
-    written_told : (q : ℕ) → q < 8 → committed words t (header.written q) ≡ written_word program m t q
+    written_told : (q : ℕ) → q < limits.PIPES → committed words t (header.written q) ≡ written_word program m t q
     written_told q few =
         let count : ℕ = (pipe_of m q).taken + length (pipe_of m q).items in
         elim (cases_Bool (writes_pipe program t q)) [
@@ -57,7 +58,7 @@ module _ (program : Program) (words : Memory) (m : Model) (accepted : IsAccepted
               ∙ sym (ap (λ (b : Bool). if b then (pipe_of m q).taken + length (pipe_of m q).items else 0) not)
         ]
 
-    taken_told : (q : ℕ) → q < 8 → committed words t (header.taken q) ≡ taken_word program m t q
+    taken_told : (q : ℕ) → q < limits.PIPES → committed words t (header.taken q) ≡ taken_word program m t q
     taken_told q few =
         elim (cases_Bool (reads_pipe program t q)) [
           | inl own ↦
@@ -68,7 +69,7 @@ module _ (program : Program) (words : Memory) (m : Model) (accepted : IsAccepted
               ∙ sym (ap (λ (b : Bool). if b then (pipe_of m q).taken else 0) not)
         ]
 
-    due_told : (j : ℕ) → j < 8 → committed words t (header.due j) ≡ timer_word program m t j
+    due_told : (j : ℕ) → j < limits.TIMERS → committed words t (header.due j) ≡ timer_word program m t j
     due_told j few =
         elim (cases_Bool (owns_timer program t j)) [
           | inl own ↦
@@ -81,7 +82,7 @@ module _ (program : Program) (words : Memory) (m : Model) (accepted : IsAccepted
               ∙ sym (ap (λ (b : Bool). if b then due_word (timer_of m j).due else 0) not)
         ]
 
-    period_told : (j : ℕ) → j < 8 → committed words t (header.period j) ≡ period_word program m t j
+    period_told : (j : ℕ) → j < limits.TIMERS → committed words t (header.period j) ≡ period_word program m t j
     period_told j few =
         elim (cases_Bool (owns_timer program t j)) [
           | inl own ↦

@@ -1,5 +1,7 @@
 -- The words of a thread's committed copy stand for the thread that they tell.
-use Rattle.image_state.proofs.Common.{◌≡◌, ◌≢◌, inl, inr, ℕ, zero, suc, ◌+◌, ◌-◌, ◌*◌, ◌^◌, ◌<◌, ◌≤◌, ◌==◌, Bool, true, false, cond, if◌then◌else◌, nat_lt, List, length, Option, Some, None, refl, sym, ap, ◌∙◌, subst, arith, eq-eqb, ne_eqb, ltb-true, cases_eq, cases_lt, cases_Bool, and_parts, slice_index, get_or_past, get_or-map-range_with_len, length-map-range_with_len, ForSome, ForNone, TaskId, Event, Origin, Program, Memory, next_word, running_of, origin_word, origin_of, due_word, due_of, origin_of-origin_word, committed, pages_of, thread_def, IsAccepted, IsOwnOrigin, flag, told_finished, told_released, HasChain, IsImage, IsBlockWord, own_bits, state_number, told_event, told_thread, each_below}
+use Rattle.image_state.proofs.Common.{◌≡◌, ◌≢◌, inl, inr, ℕ, zero, suc, ◌+◌, ◌-◌, ◌*◌, ◌^◌, ◌<◌, ◌≤◌, ◌==◌, Bool, true, false, cond, if◌then◌else◌, nat_lt, List, length, Option, Some, None, refl, sym, ap, ◌∙◌, subst, arith, eq-eqb, ne_eqb, ltb-true, cases_eq, cases_lt, cases_Bool, and_parts, slice_index, get_or_past, get_or-map-range_with_len, length-map-range_with_len, ForSome, ForNone, TaskId, Event, Origin, Program, Memory, next_word, running_of, origin_word, origin_of, due_word, due_of, origin_of-origin_word, committed, pages_of, thread_def, IsAccepted, IsOwnOrigin, flag, told_finished, told_released, HasChain, IsImage, IsBlockWord, IsChainValue, own_bits, state_number, told_event, told_thread, each_below}
+use Rattle.ink_base.specs.declared.limits.TheConstants as limits
+use Rattle.ink_base.specs.declared.event.Origin.TheVariants as origins
 use Rattle.fram_words.specs.Header as header
 
 -- the word of what was read from a word is the word
@@ -74,6 +76,15 @@ module _ (program : Program) (words : Memory) (accepted : IsAccepted program) (i
       let chain : HasChain words t = chain_from task runs in
       (record { origin = origin_of (committed words t header.origin); value = committed words t header.value }, event_told chain, (own_origin chain).0)
 
+  -- its value has 32 bits
+  pub value_small : HasChain words t → committed words t header.value < 2 ^ 32
+  value_small chain = small (origin_of (committed words t header.origin)) (committed words t header.value) ((checked header.value (omega arith)).value refl chain)
+    where
+      small : (o : Origin) (value : ℕ) → IsChainValue o value → value < 2 ^ 32
+      small (origins.Source source count) value is = is
+      small (origins.Pipe pipe item) value is = is
+      small (origins.Timer timer deadline) value is = omega (arith, is)
+
   -- its words are in the block
   pub words_told : ForSome (told_thread program words t).event (λ e. (committed words t header.origin ≡ origin_word e.origin) × (committed words t header.value ≡ e.value))
   words_told e is =
@@ -83,6 +94,17 @@ module _ (program : Program) (words : Memory) (accepted : IsAccepted program) (i
             let both : Some (record { origin = origin_of (committed words t header.origin); value = committed words t header.value }) ≡ Some e = sym (event_told chain) ∙ is in
             let same : record { origin = origin_of (committed words t header.origin); value = committed words t header.value } ≡ e = cc in
             subst (λ (x : Event). (committed words t header.origin ≡ origin_word x.origin) × (committed words t header.value ≡ x.value)) same ((own_origin chain).1, refl)
+      ]
+
+  -- the word of the next task is within the tasks of a program
+  pub next_small : committed words t header.next ≤ limits.TASKS
+  next_small =
+      elim (cases_eq (committed words t header.next) 0) [
+        | inl none ↦ omega (arith, none)
+        | inr chain ↦
+            let task = ((checked header.next (omega arith)).next refl chain).0 in
+            let few = accepted.counts.tasks in
+            omega (arith, task, few, chain)
       ]
 
   -- and its state behind the header

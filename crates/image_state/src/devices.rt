@@ -2,21 +2,21 @@
 
 ghost use Rattle.std.specs.Prelude.{◌≡◌, ◌%◌, ◌<◌, ◌≤◌, length, IfOk};
 ghost use Rattle.fram_words.specs.Places.{Ring};
-ghost use Rattle.prog_check.specs.Lookup.{pipe_def};
+ghost use Rattle.prog_check.specs.Lookup.{pipe_def, timer_def};
 ghost use Rattle.never_cut.specs.Image.{taken_of, written_of};
 ghost use Rattle.image_state.specs.Words.{by_place};
-ghost use Rattle.image_state.specs.kept.Fresh.{HasFewSettled};
-ghost use Rattle.image_state.specs.kept.Told.{IsImageOf, each_below, told_pipe, told_source_model, told_timer};
+ghost use Rattle.image_state.specs.kept.Told.{HasFewSettled, IsImageOf, each_below, told_pipe, told_source_model, told_timer};
 
 use fram_words::{Header, Place, read_due};
 use image_told::{header_word, taken, told_source, word_at, written};
-use ink_base::{NoMemory, PipeId, SourceId, TimerId};
+use ink_base::{NoMemory, PipeId, SourceId, ThreadId, TimerId};
 use ink_layout::Plan;
 use never_cut::{PipeModel, SourceModel, TimerModel};
 use sqlite_items::Items;
 use std::alloc::Global;
 
 /// The pipes in order.
+#[tactic(auto, using(crate::proofs::Each::each_more))]
 pub(crate) fn pipes_told(
     alloc: Global,
     plan: &Plan,
@@ -33,6 +33,7 @@ pub(crate) fn pipes_told(
     Ok(pipes)
 }
 
+#[tactic(auto, using(crate::proofs::Each::each_more))]
 fn pipe_told(
     alloc: Global,
     plan: &Plan,
@@ -69,6 +70,7 @@ fn item_told(plan: &Plan, words: &[u64], pipe: PipeId, number: u64) -> u32
 }
 
 /// The timers in order.
+#[tactic(auto, using(crate::proofs::Each::each_more))]
 pub(crate) fn timers_told(
     alloc: Global,
     plan: &Plan,
@@ -90,7 +92,7 @@ fn timer_told(plan: &Plan, words: &[u64], timer: TimerId) -> TimerModel
     requires known { timer.0 < length plan.now.accepted.timers }
     ensures { result ≡ told_timer plan.now.accepted (by_place plan.now.accepted words.now) timer.0 }
 {
-    let thread = plan.program().timers.as_slice()[timer.0 as usize].thread;
+    let thread = owner(plan, timer);
     let due = header_word(plan, words, thread, Header::Due(timer.0 as u32));
     let period = header_word(plan, words, thread, Header::Period(timer.0 as u32));
     TimerModel {
@@ -99,7 +101,17 @@ fn timer_told(plan: &Plan, words: &[u64], timer: TimerId) -> TimerModel
     }
 }
 
+// The thread of a timer.
+fn owner(plan: &Plan, timer: TimerId) -> ThreadId
+    requires { timer.0 < length plan.now.accepted.timers }
+    ensures owner { result ≡ (timer_def plan.now.accepted timer.0).thread }
+    ensures known { result.0 < length plan.now.accepted.threads }
+{
+    plan.program().timers.as_slice()[timer.0 as usize].thread
+}
+
 /// The sources in order; none has settled more readings than a source may have.
+#[tactic(auto, using(crate::proofs::Each::each_more))]
 pub(crate) fn sources_told(
     alloc: Global,
     plan: &Plan,

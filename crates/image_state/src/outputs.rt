@@ -31,6 +31,7 @@ pub(crate) fn outputs_told(
 }
 
 // Adds the outputs of a thread, as they stand in its log.
+#[tactic(auto, using(crate::proofs::Each::each_more))]
 fn put_outputs(
     outputs: &mut Vec<Output>,
     plan: &Plan,

@@ -7,8 +7,7 @@ ghost use Rattle.never_cut.specs.ReadOff.{IsReadOff};
 ghost use Rattle.never_cut.specs.Stands.{Stands};
 ghost use Rattle.never_cut.specs.Worn.{IsWorn};
 ghost use Rattle.image_state.specs.Words.{by_place};
-ghost use Rattle.image_state.specs.kept.Fresh.{HasFewSettled};
-ghost use Rattle.image_state.specs.kept.Told.{IsImageOf, IsNewest, IsTold};
+ghost use Rattle.image_state.specs.kept.Told.{HasFewSettled, IsImageOf, IsNewest, IsTold};
 
 use crate::devices::{pipes_told, sources_told, timers_told};
 use crate::outputs::outputs_told;
@@ -30,7 +29,8 @@ pub fn read_off(alloc: Global, plan: &Plan, words: &[u64]) -> Result<Model, NoMe
     ensures read { IfOk result (IsReadOff plan.now.accepted (by_place plan.now.accepted words.now)) }
     ensures stands { IfOk result (Stands (by_place plan.now.accepted words.now) plan.now.accepted) }
 {
-    // What an image tells, it stands for.
+    // The program is accepted, and an image stands for what it tells.
+    let _program = plan.program();
     images_stand();
     model_told(alloc, plan, words)
 }

@@ -17,6 +17,7 @@ use sqlite_items::Items;
 use std::alloc::Global;
 
 /// The threads in order.
+#[tactic(auto, using(crate::proofs::Each::each_more))]
 pub(crate) fn threads_told(
     alloc: Global,
     plan: &Plan,
@@ -58,6 +59,7 @@ fn thread_told(
 }
 
 // The numbers of a thread's state, in order.
+#[tactic(auto, using(crate::proofs::Each::each_more))]
 fn state_told(
     alloc: Global,
     plan: &Plan,

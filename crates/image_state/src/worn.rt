@@ -1,17 +1,13 @@
 //! Whether an image is worn.
 
-ghost use Rattle.std.specs.Prelude.{◌≡◌, ◌+◌, ◌*◌, ◌^◌, ◌<◌, ◌≤◌, ◌↔◌, ℕ, nat_lt, List, length, slice_index, IsTrue};
-ghost use Rattle.std.specs.Bool.{MatchBool};
-ghost use Rattle.ink_base.specs.declared.limits.TheConstants as limits;
+ghost use Rattle.std.specs.Prelude.{◌≡◌, ◌<◌, ◌↔◌, length, IsTrue};
 ghost use Rattle.ink_layout.specs.Shape.{shape_of, words_of};
-ghost use Rattle.fram_words.specs.Places.{Clock};
-ghost use Rattle.push_core.specs.Table.{greatest_tail};
-ghost use Rattle.push_core.specs.Queue.{published as published_in};
-ghost use Rattle.never_cut.specs.ReadOff as told;
+ghost use Rattle.fram_words.specs.Header.{IsHeader, word_of};
+ghost use Rattle.thread_state.specs.Pages.{committed};
 ghost use Rattle.never_cut.specs.Worn.{IsWorn};
 ghost use Rattle.never_cut.specs.Worn as worn;
 ghost use Rattle.image_state.specs.Words.{by_place};
-ghost use Rattle.image_state.specs.kept.Fresh.{IsFreshSource, IsFreshThread, IsFreshPipe};
+ghost use Rattle.image_state.specs.kept.Wear as wear;
 
 use fram_words::{Header, Place};
 use image_told::{header_word, published, taken, told_source, word_at, written};
@@ -27,84 +23,99 @@ const HALF_CLOCK: u64 = 1 << 46;
 // The most events that a queue publishes: all readings of all sources.
 const GREATEST_TAIL: u128 = (limits::SOURCES * limits::READINGS) as u128;
 
-/// Whether words of the program's board are worn with so many readings listed for each source: a source has no numbers left for all of
-/// them, or a queue no positions; or the clock, a stamp, a count of services or a count of a pipe's items is at half its range or beyond.
+/// Whether the words of a board of the program are worn with so many readings listed for each source: a source has no numbers left for
+/// all of them, or a queue no positions; or the clock, a stamp, a count of services or a count of a pipe's items has half of its range
+/// behind it.
 pub fn is_worn(plan: &Plan, listed: &[u32], words: &[u64]) -> bool
     requires count { length words.now ≡ words_of (shape_of plan.now.accepted) }
     requires listed { length listed.now ≡ length plan.now.accepted.sources }
     ensures { IsTrue result ↔ IsWorn plan.now.accepted listed.now (by_place plan.now.accepted words.now) }
 {
-    word_at(plan, words, Place::Clock) >= HALF_CLOCK
-        || has_worn_source(plan, listed, words)
-        || has_worn_thread(plan, listed, words)
-        || has_worn_pipe(plan, words)
+    wears(plan, listed, words)
 }
 
-// Whether some source has no numbers left for all readings that are listed for it.
-fn has_worn_source(plan: &Plan, listed: &[u32], words: &[u64]) -> bool
+fn wears(plan: &Plan, listed: &[u32], words: &[u64]) -> bool
     requires count { length words.now ≡ words_of (shape_of plan.now.accepted) }
     requires listed { length listed.now ≡ length plan.now.accepted.sources }
-    ensures { let memory = by_place plan.now.accepted words.now in
-        MatchBool result (IsWorn plan.now.accepted listed.now memory)
-        ((i : ℕ) → i < length plan.now.accepted.sources → IsFreshSource plan.now.accepted listed.now memory i) }
+    ensures { result ≡ wear.wears plan.now.accepted listed.now (by_place plan.now.accepted words.now) }
+{
+    word_at(plan, words, Place::Clock) >= HALF_CLOCK
+        || wears_sources(plan, listed, words)
+        || wears_threads(plan, listed, words)
+        || wears_pipes(plan, words)
+}
+
+// Whether one of the sources is worn.
+fn wears_sources(plan: &Plan, listed: &[u32], words: &[u64]) -> bool
+    requires count { length words.now ≡ words_of (shape_of plan.now.accepted) }
+    requires listed { length listed.now ≡ length plan.now.accepted.sources }
+    ensures { let test = wear.wears_source plan.now.accepted listed.now (by_place plan.now.accepted words.now) in
+        result ≡ wear.any_below test (length plan.now.accepted.sources) }
 {
     for i in 0..plan.program().sources.len() {
-        if is_worn_source(plan, listed, words, SourceId(i as u8)) {
+        if wears_source(plan, listed, words, SourceId(i as u8)) {
             return true;
         }
     }
     false
 }
 
-fn is_worn_source(plan: &Plan, listed: &[u32], words: &[u64], source: SourceId) -> bool
+// Whether a source has no numbers left for all readings that are listed for it.
+fn wears_source(plan: &Plan, listed: &[u32], words: &[u64], source: SourceId) -> bool
     requires count { length words.now ≡ words_of (shape_of plan.now.accepted) }
     requires listed { length listed.now ≡ length plan.now.accepted.sources }
     requires known { source.0 < length plan.now.accepted.sources }
-    ensures { let memory = by_place plan.now.accepted words.now in
-        result ≡ nat_lt limits.READINGS ((told.told_source plan.now.accepted memory source.0).next + slice_index listed.now source.0) }
+    ensures { result ≡ wear.wears_source plan.now.accepted listed.now (by_place plan.now.accepted words.now) source.0 }
 {
     let next = told_source(plan, words, source).next;
     next + listed[source.0 as usize] as u64 > limits::READINGS as u64
 }
 
-// Whether some thread is worn: its numbers, or its queue.
-fn has_worn_thread(plan: &Plan, listed: &[u32], words: &[u64]) -> bool
+// Whether one of the threads is worn.
+fn wears_threads(plan: &Plan, listed: &[u32], words: &[u64]) -> bool
     requires count { length words.now ≡ words_of (shape_of plan.now.accepted) }
     requires listed { length listed.now ≡ length plan.now.accepted.sources }
-    ensures { let memory = by_place plan.now.accepted words.now in
-        MatchBool result (IsWorn plan.now.accepted listed.now memory)
-        ((t : ℕ) → t < length plan.now.accepted.threads → IsFreshThread plan.now.accepted listed.now memory t) }
+    ensures { let test = wear.wears_thread plan.now.accepted listed.now (by_place plan.now.accepted words.now) in
+        result ≡ wear.any_below test (length plan.now.accepted.threads) }
 {
     for t in 0..plan.program().threads.len() {
-        if is_worn_thread(plan, listed, words, ThreadId(t as u8)) {
+        if wears_thread(plan, listed, words, ThreadId(t as u8)) {
             return true;
         }
     }
     false
 }
 
-fn is_worn_thread(plan: &Plan, listed: &[u32], words: &[u64], thread: ThreadId) -> bool
+// Whether the stamp of a thread or a count of its services is high, or its queue is worn.
+fn wears_thread(plan: &Plan, listed: &[u32], words: &[u64], thread: ThreadId) -> bool
     requires count { length words.now ≡ words_of (shape_of plan.now.accepted) }
     requires listed { length listed.now ≡ length plan.now.accepted.sources }
     requires known { thread.0 < length plan.now.accepted.threads }
-    ensures { let memory = by_place plan.now.accepted words.now in
-        MatchBool result (IsWorn plan.now.accepted listed.now memory) (IsFreshThread plan.now.accepted listed.now memory thread.0) }
+    ensures { result ≡ wear.wears_thread plan.now.accepted listed.now (by_place plan.now.accepted words.now) thread.0 }
 {
-    header_word(plan, words, thread, Header::Stamp) >= HALF_COUNT
-        || header_word(plan, words, thread, Header::Served) >= HALF_COUNT
-        || header_word(plan, words, thread, Header::Trapped) >= HALF_COUNT
-        || header_word(plan, words, thread, Header::Expired) >= HALF_COUNT
-        || is_worn_queue(plan, listed, words, thread)
+    is_high(plan, words, thread, Header::Stamp)
+        || is_high(plan, words, thread, Header::Served)
+        || is_high(plan, words, thread, Header::Trapped)
+        || is_high(plan, words, thread, Header::Expired)
+        || wears_queue(plan, listed, words, thread)
+}
+
+// Whether a count of a thread's header has half of its range behind it.
+fn is_high(plan: &Plan, words: &[u64], thread: ThreadId, header: Header) -> bool
+    requires count { length words.now ≡ words_of (shape_of plan.now.accepted) }
+    requires known { thread.0 < length plan.now.accepted.threads }
+    requires header { IsHeader header }
+    ensures { result ≡ wear.is_high (committed (by_place plan.now.accepted words.now) thread.0 (word_of header)) }
+{
+    header_word(plan, words, thread, header) >= HALF_COUNT
 }
 
 // Whether the queue of a thread has no positions left for all readings that are listed for it.
-fn is_worn_queue(plan: &Plan, listed: &[u32], words: &[u64], thread: ThreadId) -> bool
+fn wears_queue(plan: &Plan, listed: &[u32], words: &[u64], thread: ThreadId) -> bool
     requires count { length words.now ≡ words_of (shape_of plan.now.accepted) }
     requires listed { length listed.now ≡ length plan.now.accepted.sources }
     requires known { thread.0 < length plan.now.accepted.threads }
-    ensures { let memory = by_place plan.now.accepted words.now in
-        result ≡ nat_lt greatest_tail (published_in (told.told_queue plan.now.accepted memory thread.0)
-        + worn.listed_into plan.now.accepted listed.now thread.0 (length plan.now.accepted.sources)) }
+    ensures { result ≡ wear.wears_queue plan.now.accepted listed.now (by_place plan.now.accepted words.now) thread.0 }
 {
     let coming = listed_into(plan, listed, thread) as u128;
     published(plan, words, thread).saturating_add(coming) > GREATEST_TAIL
@@ -125,26 +136,25 @@ fn listed_into(plan: &Plan, listed: &[u32], thread: ThreadId) -> u64
     sum
 }
 
-// Whether some pipe is worn.
-fn has_worn_pipe(plan: &Plan, words: &[u64]) -> bool
+// Whether one of the pipes is worn.
+fn wears_pipes(plan: &Plan, words: &[u64]) -> bool
     requires { length words.now ≡ words_of (shape_of plan.now.accepted) }
-    ensures { let memory = by_place plan.now.accepted words.now in
-        MatchBool result ((listed : List ℕ) → IsWorn plan.now.accepted listed memory)
-        ((q : ℕ) → q < length plan.now.accepted.pipes → IsFreshPipe plan.now.accepted memory q) }
+    ensures { let test = wear.wears_pipe plan.now.accepted (by_place plan.now.accepted words.now) in
+        result ≡ wear.any_below test (length plan.now.accepted.pipes) }
 {
     for q in 0..plan.program().pipes.len() {
-        if is_worn_pipe(plan, words, PipeId(q as u8)) {
+        if wears_pipe(plan, words, PipeId(q as u8)) {
             return true;
         }
     }
     false
 }
 
-fn is_worn_pipe(plan: &Plan, words: &[u64], pipe: PipeId) -> bool
+// Whether a count of a pipe's items has half of its range behind it.
+fn wears_pipe(plan: &Plan, words: &[u64], pipe: PipeId) -> bool
     requires count { length words.now ≡ words_of (shape_of plan.now.accepted) }
     requires known { pipe.0 < length plan.now.accepted.pipes }
-    ensures { let memory = by_place plan.now.accepted words.now in
-        MatchBool result ((listed : List ℕ) → IsWorn plan.now.accepted listed memory) (IsFreshPipe plan.now.accepted memory pipe.0) }
+    ensures { result ≡ wear.wears_pipe plan.now.accepted (by_place plan.now.accepted words.now) pipe.0 }
 {
     written(plan, words, pipe) >= HALF_COUNT || taken(plan, words, pipe) >= HALF_COUNT
 }

@@ -2,6 +2,7 @@
 use Rattle.std.specs.Prelude.{◌≡◌, ◌⊎◌, ℕ, zero, suc, ◌+◌, ◌-◌, ◌%◌, ◌<◌, ◌≤◌, ◌==◌, if◌then◌else◌, List, [], ◌++◌, length, map, Option, Some, None}
 use Rattle.std.specs.List.{range_with_len}
 use Rattle.std.specs.List.Sorted.{IsNonDecreasingBy, IsPermutation}
+use Rattle.ink_base.specs.declared.limits.TheConstants as limits
 use Rattle.ink_base.specs.declared.event.Event.{Event}
 use Rattle.ink_base.specs.declared.output.Output.{Output}
 use Rattle.task_isa.specs.declared.program.Program.{Program}
@@ -26,6 +27,10 @@ use Rattle.image_state.specs.Words.{by_place}
 pub record IsImageOf (program : Program) (words : List ℕ) : Type 0 where
   pub count : length words ≡ words_of (shape_of program)
   pub image : IsImage program (by_place program words)
+
+-- Each source has settled no more readings than it may have.
+abbrev pub HasFewSettled : Program → Memory → Type 0
+HasFewSettled program words = (i : ℕ) → i < length program.sources → (told_source program words i).next ≤ limits.READINGS
 
 -- the value of f at each number below a count
 abbrev pub each_below : {X : Type 0} → (ℕ → X) → (count : ℕ) → List X
