@@ -1,0 +1,8 @@
+mod Common
+pub mod Slots
+pub mod Lists
+pub mod OldQueues
+pub mod Blocks
+pub mod Queues
+pub mod Sources
+pub mod Renewals

@@ -1,0 +1,5 @@
+pub mod Slots
+pub mod Told
+pub mod Image
+pub mod Worn
+pub mod Renewed
