@@ -97,10 +97,10 @@ module _ (program : Program) (old new : Memory) (renewed : IsRenewed program old
 
       -- a running chain has a source's event or another one
       pub by_source : (C : Type 0) → HasChain old t → (HasSourceChain old t → C) → (IsOther → C) → C
-      by_source C runs yes no =
+      by_source C runs of_source of_other =
           elim (cases_Bool (committed old t header.origin / 2 ^ 56 == 1)) [
-            | inl is ↦ yes (record { runs = runs; of_source = eqb-true _ _ is })
-            | inr isnt ↦ no isnt
+            | inl is ↦ of_source (record { runs = runs; of_source = eqb-true _ _ is })
+            | inr isnt ↦ of_other isnt
           ]
 
       -- one of another kind is today's

@@ -26,8 +26,8 @@ own_like i (suc j) (e ∷ events) (x ∷ held) h =
 pub own_all : (i : ℕ) (events : List Event) (held : List OldEvent) → AreLike events held → own_events i events ≡ own_old i held
 own_all i events held h =
     let n = h.count in
-    ap (own_events i) (sym (take_all events (length events) (omega arith)))
-    ∙ (own_like i (length events) events held h ∙ ap (own_old i) (take_all held (length events) (omega arith)))
+    ap (own_events i) (sym (take_all (length events) events (omega arith)))
+    ∙ (own_like i (length events) events held h ∙ ap (own_old i) (take_all (length events) held (omega arith)))
 
 -- no more events are of a source than there are
 pub own_few : (i j : ℕ) (held : List OldEvent) → own_old i (take j held) ≤ j
@@ -40,7 +40,7 @@ own_few i (suc j) (x ∷ held) =
     ]
 
 pub own_most : (i : ℕ) (held : List OldEvent) → own_old i held ≤ length held
-own_most i held = subst (λ l. own_old i l ≤ length held) (take_all held (length held) (omega arith)) (own_few i (length held) held)
+own_most i held = subst (λ l. own_old i l ≤ length held) (take_all (length held) held (omega arith)) (own_few i (length held) held)
 
 -- before one of them there are fewer than in all
 pub own_before : (i k : ℕ) (held : List OldEvent) → k < length held → (old_event_at held k).source.0 ≡ i → own_old i (take k held) < own_old i held

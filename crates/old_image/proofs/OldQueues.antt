@@ -22,7 +22,7 @@ module _ (program : Program) (words : Memory) (t : ℕ) where
       subst (IsOldReadAt program words t p) (same_Some _ _ is)
       (record {
         slot = here;
-        fits = full_fits _ p source reading value here;
+        fits = full_fits (words (Slot t (p % (thread_def program t).queue))) p source reading value here;
         known = ltb-true _ _ own.0;
         own = eqb-true _ _ own.1;
       })

@@ -146,7 +146,7 @@ module _ (program : Program) (old new : Memory) (renewed : IsRenewed program old
         and_from (nat_lt 0 f) _ both.0 full
     finished_shown false is =
         let f : ℕ = committed old t header.finished in
-        let counted : first ≡ f = ap (λ (b : Bool). f - flag b) is in
+        let counted : first ≡ f - 0 = ap (λ (b : Bool). f - flag b) is in
         both_false (nat_lt 0 f) (is_full_of (f - 1) (slot_of program new t (f - 1))) (λ positive.
           let some : 0 < f = ltb-true _ _ positive in
           let n : ℕ = (thread_def program t).queue in

@@ -1,8 +1,8 @@
 -- The renewed words of an image of the earlier form are an image of today's, which isn't worn where those weren't.
 use Rattle.old_image.proofs.Common.{◌≡◌, ℕ, ◌+◌, ◌^◌, ◌<◌, ◌≤◌, List, length, refl, sym, ap, ◌∙◌, subst, arith, Memory, Code, Commit, Clock, Program, thread_def, pages_of, committed, IsAccepted, IsImage, IsWorn, IsOldImage, IsRenewed, IsOldWorn, StayFresh}
 use Rattle.fram_words.specs.Header as header
-use Rattle.never_cut.specs.Worn.IsWorn as worn
-use Rattle.old_image.specs.Worn.IsOldWorn as was
+use Rattle.never_cut.specs.Worn as worn
+use Rattle.old_image.specs.Worn as was
 use Rattle.old_image.proofs.Blocks.{block_right, log_right, pipe_right, commit_same, committed_same, clock_same, taken_same, written_same}
 use Rattle.old_image.proofs.Queues.{queue_right, published_same}
 use Rattle.old_image.proofs.Sources.{source_right, next_told}
