@@ -2,6 +2,5 @@ pub mod Slots
 pub mod Told
 pub mod Image
 pub mod Worn
-pub mod Failing
 pub mod Renewed
 pub mod kept
