@@ -1,0 +1,85 @@
+//! The committed copies of the threads' blocks in the earlier form: the third check.
+
+ghost use Rattle.std.specs.Prelude.{◌≡◌, ◌*◌, ◌/◌, ◌^◌, ◌<◌, ◌↔◌, IsTrue, length};
+ghost use Rattle.std.specs.Option.{ForSome, ForNone};
+ghost use Rattle.fram_words.specs.Steps.{place_of};
+ghost use Rattle.prog_check.specs.Lookup.{thread_def};
+ghost use Rattle.ink_layout.specs.Shape.{IsOnBoard, pages_of, shape_of, words_of};
+ghost use Rattle.never_cut.specs.Image.{HasChain};
+ghost use Rattle.image_checks.specs.Board.{board};
+ghost use Rattle.image_checks.specs.Failing.{FindsFault};
+ghost use Rattle.old_image.specs.Image.{IsOldBlockWord, HasSourceChain};
+ghost use Rattle.old_image.specs.Failing.{OldBlocksHold, IsFirstOldBlockFault};
+ghost use Rattle.old_image.specs.kept.Origins.{IsSourceWord};
+
+use crate::queue::feeds;
+use fram_words::Header;
+use fram_words::Place;
+use image_checks::{block_place, is_block_word, page_count};
+use image_told::header_word;
+use ink_base::{SourceId, ThreadId};
+use ink_layout::Plan;
+
+/// The first word of a thread's committed copy that isn't right.
+pub(crate) fn failing_old_block(plan: &Plan, words: &[u64]) -> Option<Place>
+    requires { length words.now ≡ words_of (shape_of plan.now.accepted) }
+    ensures none { ForNone result (OldBlocksHold plan.now.accepted (board plan.now.accepted words.now)) }
+    ensures first { ForSome result (λ place. IsFirstOldBlockFault plan.now.accepted (board plan.now.accepted words.now) (place_of place)) }
+    ensures there { ForSome result (λ place. IsOnBoard plan.now.accepted (place_of place)) }
+{
+    for t in 0..plan.program().threads.len() {
+        let thread = ThreadId(t as u8);
+        if let Some(word) = failing_word(plan, words, thread) {
+            return Some(block_place(plan, words, thread, word));
+        }
+    }
+    None
+}
+
+// The number of the first word of a thread's block that isn't right.
+fn failing_word(plan: &Plan, words: &[u64], thread: ThreadId) -> Option<u32>
+    requires count { length words.now ≡ words_of (shape_of plan.now.accepted) }
+    requires known { thread.0 < length plan.now.accepted.threads }
+    ensures { let memory = board plan.now.accepted words.now in
+        FindsFault (IsOldBlockWord plan.now.accepted memory thread.0) (8 * pages_of (thread_def plan.now.accepted thread.0)) result }
+{
+    for word in 0..8 * page_count(plan, thread) {
+        if !is_old_block_word(plan, words, thread, word) {
+            return Some(word);
+        }
+    }
+    None
+}
+
+// Whether a word of a thread's block is right: the origin of an event of a source has the number of a reading.
+fn is_old_block_word(plan: &Plan, words: &[u64], thread: ThreadId, word: u32) -> bool
+    requires count { length words.now ≡ words_of (shape_of plan.now.accepted) }
+    requires known { thread.0 < length plan.now.accepted.threads }
+    requires within { word < 8 * pages_of (thread_def plan.now.accepted thread.0) }
+    ensures { IsTrue result ↔ IsOldBlockWord plan.now.accepted (board plan.now.accepted words.now) thread.0 word }
+{
+    if word == Header::Origin.word() && has_source_chain(plan, words, thread) {
+        is_source_word(plan, thread, header_word(plan, words, thread, Header::Origin))
+    } else {
+        is_block_word(plan, words, thread, word)
+    }
+}
+
+/// Whether a chain of an event of a source runs.
+pub(crate) fn has_source_chain(plan: &Plan, words: &[u64], thread: ThreadId) -> bool
+    requires count { length words.now ≡ words_of (shape_of plan.now.accepted) }
+    requires known { thread.0 < length plan.now.accepted.threads }
+    ensures { IsTrue result ↔ HasSourceChain (board plan.now.accepted words.now) thread.0 }
+{
+    let origin = header_word(plan, words, thread, Header::Origin);
+    header_word(plan, words, thread, Header::Next) != 0 && origin >> 56 == 1
+}
+
+// Whether a word is that of the origin of an event of a source of the thread, where it is of some source.
+fn is_source_word(plan: &Plan, thread: ThreadId, word: u64) -> bool
+    requires { word / 2 ^ 56 ≡ 1 }
+    ensures { IsTrue result ↔ IsSourceWord plan.now.accepted thread.0 word }
+{
+    let number = (word - (1 << 56)) >> 16;
+    number < 256 && feeds(plan, thread, SourceId(number as u8))
+}
