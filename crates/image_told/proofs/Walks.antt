@@ -1,7 +1,9 @@
 -- The events that a queue holds, position by position.
 use Rattle.std.proofs.Common.{◌≡◌, inl, inr, ℕ, zero, suc, ◌+◌, ◌/◌, ◌%◌, ◌<◌, ◌≤◌, ◌^◌, ◌==◌, ◌&&◌, nat_lt, Bool, true, false, cond, if◌then◌else◌, List, [], ◌∷◌, length, take, Option, Some, None, refl, sym, ap, ◌∙◌, subst, arith, eqb-true}
+use mir.Val.{bool_byte}
 use Rattle.std.proofs.lemmas.Bool.{and_parts, cases_lt}
 use Rattle.std.proofs.lemmas.Option.{same_Some}
+use Rattle.std.specs.Option.{is_some}
 use Rattle.ink_base.specs.declared.ids.SourceId.{SourceId}
 use Rattle.ink_base.specs.declared.event.Origin.TheVariants as origins
 use Rattle.push_core.specs.declared.slot.Slot as slot
@@ -17,7 +19,7 @@ use Rattle.never_cut.specs.Image.{own_events}
 use Rattle.never_cut.specs.ReadOff.{slot_of, event_in, events_from, told_held, told_released}
 use Rattle.never_cut.proofs.ReadQueues.{followed, events_few}
 
-position_in : slot.Slot → ℕ
+abbrev position_in : slot.Slot → ℕ
 position_in (Empty p) = p
 position_in (Full p i c v) = p
 
@@ -26,7 +28,6 @@ full_small : (word p : ℕ) (i : SourceId) (c v : ℕ) → slot_in word ≡ Some
 full_small word p i c v e = by_flag (word / 2 ^ 63 == 1) (word % 2 ^ 42 == 0) e
   where
     by_flag : (b d : Bool) → cond b (Some (full_in word)) (cond d (Some (Empty (word / 2 ^ 42))) None) ≡ Some (Full p i c v) → p < 2 ^ 21
-    unfolding position_in
     by_flag true d e = let is : word / 2 ^ 42 % 2 ^ 21 ≡ p = ap position_in (same_Some _ _ e) in omega arith
     by_flag false true e = absurd (let clash : Some (Empty (word / 2 ^ 42)) ≡ Some (Full p i c v) = e in cc)
     by_flag false false e = absurd (let clash : None ≡ Some (Full p i c v) = e in cc)
@@ -88,26 +89,46 @@ module _ (program : Program) (words : Memory) (t : ℕ) where
   pub held_small : (k : ℕ) → k < length (told_held program words t) → told_released program words t + k < 2 ^ 21
   held_small k lt = seen_small (told_released program words t + k) (event_at (told_held program words t) k) (held_seen k lt)
 
-  -- an event behind those that are known to be held is held too
-  pub one_more : (k : ℕ) (e : Event) → k < (thread_def program t).queue → k ≤ length (told_held program words t) →
-      seen (told_released program words t + k) ≡ Some e → k + 1 ≤ length (told_held program words t)
-  one_more k e room le is =
+  seen_more : (k : ℕ) (o : Option Event) → seen (told_released program words t + k) ≡ o → is_some o ≡ true → k < (thread_def program t).queue →
+      k ≤ length (told_held program words t) → k + 1 ≤ length (told_held program words t)
+  seen_more k None at is room le = absurd (let clash : false ≡ true = is in cc)
+  seen_more k (Some e) at is room le =
       elim (cases_lt k (length (told_held program words t))) [
         | inl lt ↦ omega arith
         | inr past ↦
             let all : length (told_held program words t) ≡ k = omega arith in
             let none : seen (told_released program words t + length (told_held program words t)) ≡ None =
             events_end (thread_def program t).queue (told_released program words t) (omega arith) in
-            absurd (let clash : None ≡ Some e = sym none ∙ (ap (λ n. seen (told_released program words t + n)) all ∙ is) in cc)
+            absurd (let clash : None ≡ Some e = sym none ∙ (ap (λ n. seen (told_released program words t + n)) all ∙ at) in cc)
       ]
 
-  -- where there is none, all of them are known
-  pub all_known : (k : ℕ) → k ≤ length (told_held program words t) → seen (told_released program words t + k) ≡ None → k ≡ length (told_held program words t)
-  all_known k le is =
+  seen_all : (k : ℕ) (o : Option Event) → seen (told_released program words t + k) ≡ o → is_some o ≡ false → k ≤ length (told_held program words t) →
+      k ≡ length (told_held program words t)
+  seen_all k (Some e) at is le = absurd (let clash : true ≡ false = is in cc)
+  seen_all k None at is le =
       elim (cases_lt k (length (told_held program words t))) [
-        | inl lt ↦ absurd (let clash : None ≡ Some (event_at (told_held program words t) k) = sym is ∙ held_seen k lt in cc)
+        | inl lt ↦ absurd (let clash : None ≡ Some (event_at (told_held program words t) k) = sym at ∙ held_seen k lt in cc)
         | inr past ↦ omega arith
       ]
+
+  -- an event behind those that are known to be held is held too
+  pub one_more : (first k : ℕ) (o : Option Event) → first ≡ told_released program words t → o ≡ seen (first + k) → is_some o ≡ true → k < (thread_def program t).queue →
+      k ≤ length (told_held program words t) → k + 1 ≤ length (told_held program words t)
+  one_more first k o from at is room le = seen_more k o (sym (at ∙ ap (λ n. seen (n + k)) from)) is room le
+
+  -- where there is none, all of them are known
+  pub all_known : (first k : ℕ) (o : Option Event) → first ≡ told_released program words t → o ≡ seen (first + k) → is_some o ≡ false →
+      k ≤ length (told_held program words t) → k ≡ length (told_held program words t)
+  all_known first k o from at is le = seen_all k o (sym (at ∙ ap (λ n. seen (n + k)) from)) is le
+
+  -- the event of a place stands at its position
+  pub event_here : (first k : ℕ) → first ≡ told_released program words t → k < length (told_held program words t) → seen (first + k) ≡ Some (event_at (told_held program words t) k)
+  event_here first k from lt = ap (λ n. seen (n + k)) from ∙ held_seen k lt
+
+  -- a position up to the end of them fits a word, where the first one does
+  pub position_fits : (k : ℕ) → told_released program words t < 2 ^ 64 → k ≤ length (told_held program words t) → told_released program words t + k < 2 ^ 64
+  position_fits zero released le = omega arith
+  position_fits (suc k) released le = let small = held_small k (omega arith) in omega arith
 
   -- no queue holds more than it has places
   pub held_few : length (told_held program words t) ≤ (thread_def program t).queue
@@ -123,11 +144,27 @@ own-more i (e ∷ held) (suc k) lt =
     let s : suc k + 1 ≡ suc (k + 1) = omega arith in
     rw s (omega (arith, more))
 
+flag_few : (b : Bool) (own k : ℕ) → own ≤ k → flag b + own ≤ suc k
+flag_few true own k le = omega arith
+flag_few false own k le = omega arith
+
 -- no more are its own than there are
 pub own_few : (i : ℕ) (held : List Event) (k : ℕ) → own_events i (take k held) ≤ k
 own_few i held zero = omega arith
 own_few i [] (suc k) = omega arith
-own_few i (e ∷ held) (suc k) = flag_few (event_source e == i) (own_few i held k)
-  where
-    flag_few : (b : Bool) → own_events i (take k held) ≤ k → flag b + own_events i (take k held) ≤ suc k
-    flag_few b le = omega arith
+own_few i (e ∷ held) (suc k) = flag_few (event_source e == i) (own_events i (take k held)) k (own_few i held k)
+
+pub byte_few : (b : Bool) → bool_byte b ≤ 1
+byte_few true = omega arith
+byte_few false = omega arith
+
+byte_flag : (b : Bool) → bool_byte b ≡ flag b
+byte_flag true = refl
+byte_flag false = refl
+
+-- one event more, of which a test tells whether it is an own one
+pub one_own : (i : ℕ) (held : List Event) (k own : ℕ) (b : Bool) → k < length held → own ≡ own_events i (take k held) → b ≡ (event_source (event_at held k) == i) →
+    own + bool_byte b ≡ own_events i (take (k + 1) held)
+one_own i held k own b lt so_far is =
+    let more = own-more i held k lt in
+    let byte : bool_byte b ≡ flag (event_source (event_at held k) == i) = byte_flag b ∙ ap flag is in omega arith

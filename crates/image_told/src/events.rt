@@ -4,11 +4,11 @@ ghost use Rattle.std.specs.Prelude.{◌≡◌, ◌==◌, ◌<◌, ◌≤◌, len
 ghost use Rattle.prog_check.specs.Lookup.{thread_def};
 ghost use Rattle.fram_words.specs.Shape.{memory_of};
 ghost use Rattle.ink_layout.specs.Shape.{shape_of, words_of};
-ghost use Rattle.push_core.specs.Queue.{event_source, published as published_in};
+ghost use Rattle.push_core.specs.Queue as queue;
 ghost use Rattle.never_cut.specs.ReadOff.{told_held, told_queue};
 ghost use Rattle.never_cut.specs.Image as image;
 
-use crate::queue::{event_at, fed, released};
+use crate::queue::{event_at, fed, places, released};
 use ink_base::{Event, NoMemory, Origin, SourceId, ThreadId};
 use ink_layout::Plan;
 use std::alloc::Global;
@@ -20,7 +20,7 @@ pub fn held_count(plan: &Plan, words: &[u64], thread: ThreadId) -> u32
     ensures number { result ≡ length (told_held plan.now.accepted (memory_of (shape_of plan.now.accepted) words.now) thread.0) }
     ensures few { result ≤ (thread_def plan.now.accepted thread.0).queue }
 {
-    let places = plan.program().threads.as_slice()[thread.0 as usize].queue as u32;
+    let places = places(plan, thread) as u32;
     let first = released(plan, words, thread);
     for k in 0..places {
         if event_at(plan, words, thread, first + k as u64).is_none() {
@@ -34,24 +34,33 @@ pub fn held_count(plan: &Plan, words: &[u64], thread: ThreadId) -> u32
 pub fn published(plan: &Plan, words: &[u64], thread: ThreadId) -> u128
     requires count { length words.now ≡ words_of (shape_of plan.now.accepted) }
     requires known { thread.0 < length plan.now.accepted.threads }
-    ensures { result ≡ published_in (told_queue plan.now.accepted (memory_of (shape_of plan.now.accepted) words.now) thread.0) }
+    ensures { result ≡ queue.published (told_queue plan.now.accepted (memory_of (shape_of plan.now.accepted) words.now) thread.0) }
 {
     released(plan, words, thread) as u128 + held_count(plan, words, thread) as u128
 }
 
-/// The event that stands at a place among them, counted from 0; none behind the last.
+/// The event at a place among them, counted from 0.
+pub fn held_at(plan: &Plan, words: &[u64], thread: ThreadId, place: u32) -> Event
+    requires count { length words.now ≡ words_of (shape_of plan.now.accepted) }
+    requires known { thread.0 < length plan.now.accepted.threads }
+    requires held { place < length (told_held plan.now.accepted (memory_of (shape_of plan.now.accepted) words.now) thread.0) }
+    ensures { result ≡ queue.event_at (told_held plan.now.accepted (memory_of (shape_of plan.now.accepted) words.now) thread.0) place }
+{
+    let first = released(plan, words, thread);
+    match event_at(plan, words, thread, first + place as u64) {
+        Some(event) => event,
+        None => unreachable!(),
+    }
+}
+
+/// The event at that place; none behind the last.
 pub fn held_event(plan: &Plan, words: &[u64], thread: ThreadId, place: u32) -> Option<Event>
     requires count { length words.now ≡ words_of (shape_of plan.now.accepted) }
     requires known { thread.0 < length plan.now.accepted.threads }
     ensures { result ≡ slice_get (told_held plan.now.accepted (memory_of (shape_of plan.now.accepted) words.now) thread.0) place }
 {
     if place < held_count(plan, words, thread) {
-        event_at(
-            plan,
-            words,
-            thread,
-            released(plan, words, thread) + place as u64,
-        )
+        Some(held_at(plan, words, thread, place))
     } else {
         None
     }
@@ -70,28 +79,24 @@ pub fn held(
 {
     let mut events = Vec::new(alloc);
     for place in 0..held_count(plan, words, thread) {
-        if let Some(event) = held_event(plan, words, thread, place) {
-            events.push(event)?;
-        }
+        events.push(held_at(plan, words, thread, place))?;
     }
     Ok(events)
 }
 
-/// How many of the first so many events are of a source, in the queue of the thread that it feeds.
+/// How many of the first so many of them are of a source, in the queue that it feeds.
 pub fn own_before(plan: &Plan, words: &[u64], source: SourceId, place: u32) -> u32
     requires count { length words.now ≡ words_of (shape_of plan.now.accepted) }
     requires known { source.0 < length plan.now.accepted.sources }
-    ensures { let memory = memory_of (shape_of plan.now.accepted) words.now in
+    requires held { place ≤ length (image.held_for plan.now.accepted (memory_of (shape_of plan.now.accepted) words.now) source.0) }
+    ensures own { let memory = memory_of (shape_of plan.now.accepted) words.now in
         result ≡ image.own_events source.0 (take place (image.held_for plan.now.accepted memory source.0)) }
+    ensures few { result ≤ place }
 {
     let thread = fed(plan, source);
     let mut own = 0;
     for k in 0..place {
-        if let Some(event) = held_event(plan, words, thread, k) {
-            if is_of(source, event) {
-                own += 1;
-            }
-        }
+        own += is_of(source, held_at(plan, words, thread, k)) as u32;
     }
     own
 }
@@ -103,13 +108,17 @@ pub fn own_events(plan: &Plan, words: &[u64], source: SourceId) -> u32
     ensures { let memory = memory_of (shape_of plan.now.accepted) words.now in
         result ≡ image.own_events source.0 (image.held_for plan.now.accepted memory source.0) }
 {
-    let thread = fed(plan, source);
-    own_before(plan, words, source, held_count(plan, words, thread))
+    own_before(
+        plan,
+        words,
+        source,
+        held_count(plan, words, fed(plan, source)),
+    )
 }
 
 // Whether the event is of the source.
 fn is_of(source: SourceId, event: Event) -> bool
-    ensures { result ≡ (event_source event == source.0) }
+    ensures { result ≡ (queue.event_source event == source.0) }
 {
     match event.origin {
         Origin::Source { source: of, .. } => of == source,

@@ -2,7 +2,7 @@
 
 ghost use Rattle.std.specs.Prelude.{◌≡◌, ◌<◌, ◌^◌, ◌==◌, ◌&&◌, nat_lt, length};
 ghost use Rattle.std.specs.Option.{ForSome};
-ghost use Rattle.prog_check.specs.Lookup.{source_thread};
+ghost use Rattle.prog_check.specs.Lookup.{source_thread, thread_def};
 ghost use Rattle.fram_words.specs.Shape.{memory_of};
 ghost use Rattle.fram_words.specs.Steps.{place_of};
 ghost use Rattle.push_core.specs.Slots.{IsSlot, word_of};
@@ -25,6 +25,15 @@ pub fn fed(plan: &Plan, source: SourceId) -> ThreadId
     plan.program().sources.as_slice()[source.0 as usize]
 }
 
+/// How many places the queue of a thread has.
+pub fn places(plan: &Plan, thread: ThreadId) -> u8
+    requires { thread.0 < length plan.now.accepted.threads }
+    ensures places { result ≡ (thread_def plan.now.accepted thread.0).queue }
+    ensures some { 0 < result }
+{
+    plan.program().threads.as_slice()[thread.0 as usize].queue
+}
+
 /// What the slot of a position holds, in the queue of a thread; none where it is no slot's word.
 pub fn slot_of(plan: &Plan, words: &[u64], thread: ThreadId, position: u64) -> Option<Slot>
     requires count { length words.now ≡ words_of (shape_of plan.now.accepted) }
@@ -42,10 +51,9 @@ pub fn slot_place(plan: &Plan, thread: ThreadId, position: u64) -> Place
     ensures place { place_of result ≡ slot_place plan.now.accepted thread.0 position }
     ensures there { IsOnBoard plan.now.accepted (place_of result) }
 {
-    let places = plan.program().threads.as_slice()[thread.0 as usize].queue;
     Place::Slot {
         thread,
-        index: (position % places as u64) as u32,
+        index: (position % places(plan, thread) as u64) as u32,
     }
 }
 

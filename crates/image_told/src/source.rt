@@ -7,7 +7,7 @@ ghost use Rattle.ink_layout.specs.Shape.{shape_of, words_of};
 ghost use Rattle.never_cut.specs.Image.{held_for};
 ghost use Rattle.never_cut.specs.ReadOff as told;
 
-use crate::events::{held_count, held_event};
+use crate::events::{held_at, held_count};
 use crate::queue::fed;
 use crate::words::word_at;
 use fram_words::{Place, read_src};
@@ -41,10 +41,8 @@ fn holds_number(plan: &Plan, words: &[u64], source: SourceId, number: u32) -> bo
 {
     let thread = fed(plan, source);
     for k in 0..held_count(plan, words, thread) {
-        if let Some(event) = held_event(plan, words, thread, k) {
-            if has_number(source, number, event) {
-                return true;
-            }
+        if has_number(source, number, held_at(plan, words, thread, k)) {
+            return true;
         }
     }
     false
