@@ -3,9 +3,9 @@ pub mod Slots
 pub mod Lists
 pub mod OldQueues
 pub mod Walks
-pub mod Blocks
-pub mod Queues
-pub mod Sources
+pub mod NewBlocks
+pub mod NewQueues
+pub mod NewSources
 pub mod Renewals
 pub mod Checks
 pub mod Stages

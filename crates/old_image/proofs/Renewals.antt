@@ -3,9 +3,9 @@ use Rattle.old_image.proofs.Common.{◌≡◌, ℕ, ◌+◌, ◌^◌, ◌<◌, �
 use Rattle.fram_words.specs.Header as header
 use Rattle.never_cut.specs.Worn as worn
 use Rattle.old_image.specs.Worn as was
-use Rattle.old_image.proofs.Blocks.{block_right, log_right, pipe_right, commit_same, committed_same, clock_same, taken_same, written_same}
-use Rattle.old_image.proofs.Queues.{queue_right, published_same}
-use Rattle.old_image.proofs.Sources.{source_right, next_told}
+use Rattle.old_image.proofs.NewBlocks.{block_right, log_right, pipe_right, commit_same, committed_same, clock_same, taken_same, written_same}
+use Rattle.old_image.proofs.NewQueues.{queue_right, published_same}
+use Rattle.old_image.proofs.NewSources.{source_right, next_told}
 
 module _ (program : Program) (old new : Memory) (renewed : IsRenewed program old new) (accepted : IsAccepted program) (image : IsOldImage program old) where
   pub renewed_image : IsImage program new

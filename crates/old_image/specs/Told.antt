@@ -77,10 +77,14 @@ abbrev pub own_old : (i : ℕ) → List OldEvent → ℕ
 own_old i [] = 0
 own_old i (e ∷ held) = flag (is_of i e) + own_old i held
 
--- one more than the greatest number of a reading of source i among these events; 0 where none is of it
+-- one more than the number of an event's reading; 0 where the event isn't of source i
+abbrev pub after_event : (i : ℕ) → OldEvent → ℕ
+after_event i e = if is_of i e then e.reading + 1 else 0
+
+-- the greatest of these numbers
 abbrev pub after_held : (i : ℕ) → List OldEvent → ℕ
 after_held i [] = 0
-after_held i (e ∷ held) = max (if is_of i e then e.reading + 1 else 0) (after_held i held)
+after_held i (e ∷ held) = max (after_event i e) (after_held i held)
 
 -- The next reading of a source: the greatest of SRC, which is the number of the next one, of ACK, which is one more than the last that was acknowledged,
 -- and of one more than each that is held.

@@ -8,9 +8,9 @@ ghost use Rattle.image_checks.specs.Board.{board};
 ghost use Rattle.old_image.specs.Told as told;
 
 use crate::old_event::OldEvent;
-use crate::queue::{old_event_at, old_released, places};
+use crate::queue::{old_event_at, old_released};
 use fram_words::Place;
-use image_told::{fed, word_at};
+use image_told::{fed, places, word_at};
 use ink_base::{SourceId, ThreadId};
 use ink_layout::Plan;
 
@@ -21,7 +21,7 @@ pub(crate) fn old_held_count(plan: &Plan, words: &[u64], thread: ThreadId) -> u3
     ensures number { result ≡ length (told.old_held plan.now.accepted (board plan.now.accepted words.now) thread.0) }
     ensures few { result ≤ (thread_def plan.now.accepted thread.0).queue }
 {
-    let places = places(plan, thread);
+    let places = places(plan, thread) as u32;
     let first = old_released(plan, words, thread);
     for k in 0..places {
         if old_event_at(plan, words, thread, first + k as u64).is_none() {
@@ -52,11 +52,43 @@ pub(crate) fn old_held_event(
     requires held { place < length (told.old_held plan.now.accepted (board plan.now.accepted words.now) thread.0) }
     ensures { result ≡ told.old_event_at (told.old_held plan.now.accepted (board plan.now.accepted words.now) thread.0) place }
 {
-    let position = old_released(plan, words, thread) + place as u64;
-    old_event_at(plan, words, thread, position).unwrap()
+    let first = old_released(plan, words, thread);
+    match old_event_at(plan, words, thread, first + place as u64) {
+        Some(event) => event,
+        None => unreachable!(),
+    }
 }
 
-/// How many of the first so many events are of a source, in the queue of the thread that it feeds.
+/// How many events the queue of a source holds.
+pub(crate) fn count_for(plan: &Plan, words: &[u64], source: SourceId) -> u32
+    requires count { length words.now ≡ words_of (shape_of plan.now.accepted) }
+    requires known { source.0 < length plan.now.accepted.sources }
+    ensures number { result ≡ length (told.old_held_for plan.now.accepted (board plan.now.accepted words.now) source.0) }
+    ensures few { result ≤ limits.QUEUE_PLACES }
+{
+    // A queue has few places.
+    let _program = plan.program();
+    old_held_count(plan, words, fed(plan, source))
+}
+
+/// The event that stands at a place among them, counted from 0.
+pub(crate) fn event_for(plan: &Plan, words: &[u64], source: SourceId, place: u32) -> OldEvent
+    requires count { length words.now ≡ words_of (shape_of plan.now.accepted) }
+    requires known { source.0 < length plan.now.accepted.sources }
+    requires held { place < length (told.old_held_for plan.now.accepted (board plan.now.accepted words.now) source.0) }
+    ensures { result ≡ told.old_event_at (told.old_held_for plan.now.accepted (board plan.now.accepted words.now) source.0) place }
+{
+    old_held_event(plan, words, fed(plan, source), place)
+}
+
+/// Whether an event is of a source.
+pub(crate) fn is_of(source: SourceId, event: OldEvent) -> bool
+    ensures { result ≡ told.is_of source.0 event }
+{
+    event.source == source
+}
+
+/// How many of the first so many events of a source's queue are of the source.
 pub(crate) fn own_before(plan: &Plan, words: &[u64], source: SourceId, place: u32) -> u32
     requires count { length words.now ≡ words_of (shape_of plan.now.accepted) }
     requires known { source.0 < length plan.now.accepted.sources }
@@ -65,46 +97,46 @@ pub(crate) fn own_before(plan: &Plan, words: &[u64], source: SourceId, place: u3
         result ≡ told.own_old source.0 (take place (told.old_held_for plan.now.accepted memory source.0)) }
     ensures few { result ≤ place }
 {
-    let thread = fed(plan, source);
     let mut own = 0;
     for k in 0..place {
-        if old_held_event(plan, words, thread, k).source == source {
-            own += 1;
-        }
+        own += is_of(source, event_for(plan, words, source, k)) as u32;
     }
     own
 }
 
-/// One more than the greatest number of a reading of a source among the first so many events; 0 where none of them is of it.
+/// How many of all of them are of the source.
+pub(crate) fn own_held(plan: &Plan, words: &[u64], source: SourceId) -> u32
+    requires count { length words.now ≡ words_of (shape_of plan.now.accepted) }
+    requires known { source.0 < length plan.now.accepted.sources }
+    ensures { result ≡ told.own_old source.0 (told.old_held_for plan.now.accepted (board plan.now.accepted words.now) source.0) }
+{
+    own_before(plan, words, source, count_for(plan, words, source))
+}
+
+/// One more than the greatest number of a reading of the source among the first so many events; 0 where none of them is of it.
 pub(crate) fn after_first(plan: &Plan, words: &[u64], source: SourceId, place: u32) -> u32
     requires count { length words.now ≡ words_of (shape_of plan.now.accepted) }
     requires known { source.0 < length plan.now.accepted.sources }
     requires held { place ≤ length (told.old_held_for plan.now.accepted (board plan.now.accepted words.now) source.0) }
-    ensures after { let memory = board plan.now.accepted words.now in
+    ensures { let memory = board plan.now.accepted words.now in
         result ≡ told.after_held source.0 (take place (told.old_held_for plan.now.accepted memory source.0)) }
-    ensures fits { result ≤ 2 ^ 16 }
 {
-    let thread = fed(plan, source);
     let mut after = 0;
     for k in 0..place {
-        let event = old_held_event(plan, words, thread, k);
-        if event.source == source {
-            after = after.max(event.reading as u32 + 1);
-        }
+        after = after.max(after_event(source, event_for(plan, words, source, k)));
     }
     after
 }
 
-/// How many of all events that are held are of the source.
-pub(crate) fn own_held(plan: &Plan, words: &[u64], source: SourceId) -> u32
-    requires count { length words.now ≡ words_of (shape_of plan.now.accepted) }
-    requires known { source.0 < length plan.now.accepted.sources }
-    ensures own { let memory = board plan.now.accepted words.now in
-        result ≡ told.own_old source.0 (told.old_held_for plan.now.accepted memory source.0) }
-    ensures few { result ≤ limits.QUEUE_PLACES }
+// One more than the number of an event's reading; 0 where the event isn't of the source.
+fn after_event(source: SourceId, event: OldEvent) -> u32
+    ensures { result ≡ told.after_event source.0 event }
 {
-    let thread = fed(plan, source);
-    own_before(plan, words, source, old_held_count(plan, words, thread))
+    if is_of(source, event) {
+        event.reading as u32 + 1
+    } else {
+        0
+    }
 }
 
 /// The number of the source's next reading.
@@ -115,7 +147,6 @@ pub(crate) fn old_next(plan: &Plan, words: &[u64], source: SourceId) -> u64
 {
     let src = word_at(plan, words, Place::Src { source });
     let ack = word_at(plan, words, Place::Ack { source });
-    let held = old_held_count(plan, words, fed(plan, source));
-    src.max(ack)
-        .max(after_first(plan, words, source, held) as u64)
+    let held = after_first(plan, words, source, count_for(plan, words, source));
+    src.max(ack).max(held as u64)
 }

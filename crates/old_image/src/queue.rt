@@ -1,10 +1,8 @@
 //! The queue of a thread in the earlier form: its slots, and how many of its events are released.
 
-ghost use Rattle.std.specs.Prelude.{◌≡◌, ◌<◌, ◌≤◌, ◌^◌, length};
+ghost use Rattle.std.specs.Prelude.{◌≡◌, ◌<◌, ◌^◌, length};
 ghost use Rattle.std.specs.Option.{ForSome};
 ghost use Rattle.ink_layout.specs.Shape.{shape_of, words_of};
-ghost use Rattle.ink_base.specs.declared.limits.TheConstants as limits;
-ghost use Rattle.prog_check.specs.Lookup.{thread_def};
 ghost use Rattle.image_checks.specs.Board.{board};
 ghost use Rattle.old_image.specs.Told as told;
 
@@ -126,14 +124,4 @@ pub(crate) fn old_released(plan: &Plan, words: &[u64], thread: ThreadId) -> u64
     } else {
         finished
     }
-}
-
-/// How many places the queue of a thread has.
-pub(crate) fn places(plan: &Plan, thread: ThreadId) -> u32
-    requires { thread.0 < length plan.now.accepted.threads }
-    ensures number { result ≡ (thread_def plan.now.accepted thread.0).queue }
-    ensures some { 0 < result }
-    ensures few { result ≤ limits.QUEUE_PLACES }
-{
-    plan.program().threads.as_slice()[thread.0 as usize].queue as u32
 }

@@ -13,7 +13,7 @@ ghost use Rattle.prog_check.specs.Lookup.{source_thread};
 ghost use Rattle.old_image.specs.Renewed.{place_behind};
 ghost use Rattle.old_image.specs.kept.Parts.{FindsOwn, IsAckBefore};
 
-use crate::held::{after_first, old_held_count, old_held_event};
+use crate::held::{after_first, count_for, event_for, is_of};
 use crate::queue::{is_old_finished, old_released};
 use fram_words::Place;
 use image_told::{fed, slot_place, word_at};
@@ -59,7 +59,7 @@ fn failing_reading(plan: &Plan, words: &[u64], source: SourceId) -> Option<u32>
     ensures { let memory = board plan.now.accepted words.now in
         FindsFault (IsRisingReading plan.now.accepted memory source.0) (length (told.old_held_for plan.now.accepted memory source.0)) result }
 {
-    for place in 0..old_held_count(plan, words, fed(plan, source)) {
+    for place in 0..count_for(plan, words, source) {
         if !rises(plan, words, source, place) {
             return Some(place);
         }
@@ -74,8 +74,8 @@ fn rises(plan: &Plan, words: &[u64], source: SourceId, place: u32) -> bool
     requires held { place < length (told.old_held_for plan.now.accepted (board plan.now.accepted words.now) source.0) }
     ensures { IsTrue result ↔ IsRisingReading plan.now.accepted (board plan.now.accepted words.now) source.0 place }
 {
-    let event = old_held_event(plan, words, fed(plan, source), place);
-    event.source != source || after_first(plan, words, source, place) <= event.reading as u32
+    let event = event_for(plan, words, source, place);
+    !is_of(source, event) || after_first(plan, words, source, place) <= event.reading as u32
 }
 
 // ACK is at most the number of the source's first held reading, or one more where that event is finished.
@@ -96,9 +96,8 @@ fn first_own(plan: &Plan, words: &[u64], source: SourceId) -> Option<u32>
     requires known { source.0 < length plan.now.accepted.sources }
     ensures { FindsOwn source.0 (told.old_held_for plan.now.accepted (board plan.now.accepted words.now) source.0) result }
 {
-    let thread = fed(plan, source);
-    for place in 0..old_held_count(plan, words, thread) {
-        if old_held_event(plan, words, thread, place).source == source {
+    for place in 0..count_for(plan, words, source) {
+        if is_of(source, event_for(plan, words, source, place)) {
             return Some(place);
         }
     }
@@ -112,9 +111,8 @@ fn is_ack_for(plan: &Plan, words: &[u64], source: SourceId, place: u32) -> bool
     requires held { place < length (told.old_held_for plan.now.accepted (board plan.now.accepted words.now) source.0) }
     ensures { IsTrue result ↔ IsAckBefore plan.now.accepted (board plan.now.accepted words.now) source.0 place }
 {
-    let thread = fed(plan, source);
-    let reading = old_held_event(plan, words, thread, place).reading as u64;
-    let is_finished = place == 0 && is_old_finished(plan, words, thread);
+    let reading = event_for(plan, words, source, place).reading as u64;
+    let is_finished = is_old_finished(plan, words, fed(plan, source)) && place == 0;
     word_at(plan, words, Place::Ack { source }) <= reading + is_finished as u64
 }
 

@@ -6,7 +6,7 @@ use Rattle.push_core.specs.declared.slot.Slot as slot
 use Rattle.push_core.specs.declared.slot.Slot.TheVariants as slots
 use Rattle.old_image.proofs.Lists.{AreLike, own_few}
 use Rattle.old_image.proofs.OldQueues.{IsOldReadAt, held_read, held_few, old_finished_held}
-use Rattle.old_image.proofs.Blocks.{committed_same, chain_before, by_source, none_of_source, origin_same, origin_back}
+use Rattle.old_image.proofs.NewBlocks.{committed_same, chain_before, by_source, none_of_source, origin_same, origin_back}
 
 pub both_false : (a b : Bool) → (a ≡ true → b ≡ false) → (a && b) ≡ false
 both_false true b h = h refl

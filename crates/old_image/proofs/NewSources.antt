@@ -2,7 +2,7 @@
 use Rattle.old_image.proofs.Common.{◌≡◌, ◌≢◌, ◌⊎◌, inl, inr, ℕ, ◌+◌, ◌-◌, ◌*◌, ◌/◌, ◌%◌, ◌^◌, ◌<◌, ◌≤◌, ◌==◌, ◌&&◌, ◌||◌, max, Bool, true, false, List, length, take, refl, sym, ap, ◌∙◌, subst, arith, eqb-true, ne_eqb, list_any, Memory, Ack, Src, Program, thread_def, source_thread, Event, src_of, src_word, event_at, event_count, event_source, IsAccepted, has_number, is_one_more, told_held, told_source, held_for, own_events, flag, IsSourceRight, OldEvent, own_old, after_held, old_event_at, old_held, old_held_for, old_next, IsOldImage, IsRenewed}
 use Rattle.old_image.proofs.Lists.{AreLike, own_like, own_all, own_before, own_few, own_most, Rise, rise_bound, none_pass}
 use Rattle.old_image.proofs.OldQueues.{held_few}
-use Rattle.old_image.proofs.Queues.{held_count, held_event, held_like, both_false}
+use Rattle.old_image.proofs.NewQueues.{held_count, held_event, held_like, both_false}
 
 either_false : (a b : Bool) → a ≡ false → b ≡ false → (a || b) ≡ false
 either_false true b h k = absurd (let clash : true ≡ false = h in cc)
