@@ -1,11 +1,11 @@
 -- What the checks of the earlier form ask, told of the numbers that the code compares.
-use Rattle.old_image.proofs.Common.{◌≡◌, ◌≢◌, inl, inr, ℕ, zero, suc, ◌+◌, ◌*◌, ◌-◌, ◌/◌, ◌%◌, ◌^◌, ◌<◌, ◌≤◌, ◌==◌, ◌&&◌, max, Bool, true, false, if◌then◌else◌, List, [], ◌∷◌, length, take, Option, Some, None, refl, sym, ap, ◌∙◌, subst, arith, eqb-true, eq-eqb, cases_Bool, cases_lt, Memory, Ack, Slot, Program, thread_def, source_thread, SourceId, Origin, origin_word, committed, flag, HasChain, IsBlockWord, IsChainOrigin, OldEvent, OldSlot, is_of, old_slot_in, old_slot_of, old_event_at, old_released, old_held, old_held_for, own_old, after_held, HasSourceChain, IsOldBlockWord, IsOldOrigin, IsOldSlotWord, IsRisingReading, IsOldAckWord, is_old_finished_at}
+use Rattle.old_image.proofs.Common.{◌≡◌, ◌≢◌, ◌↔◌, IsTrue, inl, inr, ℕ, zero, suc, ◌+◌, ◌*◌, ◌-◌, ◌/◌, ◌%◌, ◌^◌, ◌<◌, ◌≤◌, ◌==◌, ◌&&◌, max, Bool, true, false, if◌then◌else◌, List, [], ◌∷◌, length, take, Option, Some, None, refl, sym, ap, ◌∙◌, subst, arith, eqb-true, eq-eqb, cases_Bool, cases_lt, Memory, Ack, Slot, Program, thread_def, source_thread, SourceId, Origin, origin_word, committed, flag, HasChain, IsBlockWord, IsChainOrigin, OldEvent, OldSlot, is_of, old_slot_in, old_slot_of, old_event_at, old_released, old_held, old_held_for, own_old, after_held, HasSourceChain, IsOldBlockWord, IsOldOrigin, IsOldSlotWord, IsRisingReading, IsOldAckWord, is_old_finished_at}
 use Rattle.ink_base.specs.declared.event.Origin.TheVariants as origins
 use Rattle.fram_words.specs.Header as header
 use Rattle.prog_check.specs.Accepted.{IsAccepted}
 use Rattle.old_image.specs.declared.old_slot.OldSlot.TheVariants.{Empty, Full}
 use Rattle.old_image.specs.kept.Origins.{IsSourceWord}
-use Rattle.old_image.specs.kept.Parts.{IsFree, NoneOwn, IsFirstOwn, FindsOwn, IsAckBefore}
+use Rattle.old_image.specs.kept.Parts.{IsFree, ComesAfter, NoneOwn, IsFirstOwn, IsAckBefore}
 use Rattle.old_image.proofs.Slots.{old_slot_read, old_slot_in-word_of}
 use Rattle.old_image.proofs.Lists.{own_few}
 
@@ -133,3 +133,15 @@ module _ (program : Program) (words : Memory) (t : ℕ) (accepted : IsAccepted p
       absurd (none (record { runs = runs; of_source = omega (arith, is) }))
   old_origin none (origins.Pipe pipe item) runs is own = (origins.Pipe pipe item, is, own)
   old_origin none (origins.Timer timer deadline) runs is own = (origins.Timer timer deadline, is, own)
+
+-- so a test of the reading tells whether they rise there
+pub rises_told : (program : Program) (words : Memory) (i place : ℕ) (e : OldEvent) (after : ℕ) {r : Bool} → place < length (old_held_for program words i) →
+    e ≡ old_event_at (old_held_for program words i) place → after ≡ after_held i (take place (old_held_for program words i)) →
+    (IsTrue r ↔ ComesAfter i e after) → (IsTrue r ↔ IsRisingReading program words i place)
+rises_told program words i place e after {r} lt is so_far test =
+    let told : (IsTrue r ↔ ComesAfter i (old_event_at (old_held_for program words i) place) (after_held i (take place (old_held_for program words i)))) =
+        subst (λ (z : OldEvent × ℕ). IsTrue r ↔ ComesAfter i z.0 z.1) (λ k. (is k, so_far k)) test in
+    (
+      λ yes own. rising program words i place lt (told.0 yes own) own,
+      λ rises. told.1 (λ own. above program words i place lt own rises),
+    )

@@ -1,5 +1,5 @@
 -- The names that several proofs of this crate cite, passed on from one place. Declares nothing.
-pub use Rattle.std.proofs.Common.{Bool, List, None, Option, Some, [], ap, arith, cond, eq-eqb, eqb-true, false, get_or, if◌then◌else◌, inl, inr, leb-true, length, lt-ltb, ltb-true, max, nat_lt, ne_eqb, not, refl, slice_index, slice_index_or, subst, suc, sym, take, take_all, true, zero, ℕ, ◌%◌, ◌&&◌, ◌*◌, ◌+◌, ◌-◌, ◌/◌, ◌<◌, ◌==◌, ◌^◌, ◌∙◌, ◌∷◌, ◌≡◌, ◌≢◌, ◌≤◌, ◌⊎◌, ◌||◌}
+pub use Rattle.std.proofs.Common.{Bool, IsTrue, List, None, Option, Some, [], ap, arith, cond, eq-eqb, eqb-true, false, get_or, if◌then◌else◌, inl, inr, leb-true, length, lt-ltb, ltb-true, max, nat_le, nat_lt, ne_eqb, not, refl, slice_index, slice_index_or, subst, suc, sym, take, take_all, true, zero, ℕ, ◌%◌, ◌&&◌, ◌*◌, ◌+◌, ◌-◌, ◌/◌, ◌<◌, ◌==◌, ◌^◌, ◌∙◌, ◌∷◌, ◌≡◌, ◌≢◌, ◌≤◌, ◌⊎◌, ◌||◌, ◌↔◌}
 pub use Rattle.std.proofs.Math.Nat.{add-mod_right}
 pub use Rattle.std.proofs.lemmas.Bool.{and_from, and_parts, cases_Bool, cases_eq, cases_lt}
 pub use Rattle.std.proofs.lemmas.Option.{same_Some}
@@ -26,7 +26,7 @@ pub use Rattle.never_cut.specs.Worn.{IsWorn, listed_into}
 pub use Rattle.old_image.specs.declared.old_event.OldEvent.{OldEvent}
 pub use Rattle.old_image.specs.declared.old_slot.OldSlot.{OldSlot}
 pub use Rattle.old_image.specs.Slots.{FitsOldSlot, IsOldSlot, old_empty_word, old_full_in, old_full_word, old_slot_in, old_word_of}
-pub use Rattle.old_image.specs.Told.{after_held, feeds, is_of, is_old_full_of, no_old_event, old_event_at, old_event_in, old_events_from, old_finished, old_held, old_held_for, old_next, old_origin_word, old_published, old_released, old_slot_of, own_old}
+pub use Rattle.old_image.specs.Told.{after_event, after_held, feeds, is_of, is_old_full_of, no_old_event, old_event_at, old_event_in, old_events_from, old_finished, old_held, old_held_for, old_next, old_origin_word, old_published, old_released, old_slot_of, own_old}
 pub use Rattle.old_image.specs.Image.{HasSourceChain, IsOldAckWord, IsOldBlockWord, IsOldFirstServed, IsOldImage, IsOldOrigin, IsOldQueueRight, IsOldServed, IsOldSlotWord, IsOldSourceRight, IsRisingReading, is_old_finished_at}
 pub use Rattle.old_image.specs.Worn.{IsFresh, IsOldWorn}
 pub use Rattle.old_image.specs.Renewed.{IsRenewed, StayFresh, Stays, origin_place, place_behind, renewed_word, without_reading}

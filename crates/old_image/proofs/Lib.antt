@@ -11,3 +11,4 @@ pub mod Checks
 pub mod Stages
 pub mod Unworn
 pub mod Puts
+pub mod QueueSlots

@@ -1,5 +1,6 @@
 -- The events that a queue of the earlier form holds, position by position.
-use Rattle.old_image.proofs.Common.{◌≡◌, inl, inr, ℕ, zero, suc, ◌+◌, ◌<◌, ◌≤◌, ◌^◌, ◌==◌, max, Bool, true, false, if◌then◌else◌, List, [], ◌∷◌, length, take, Option, Some, None, refl, sym, ap, ◌∙◌, subst, arith, cases_lt, Memory, Program, thread_def, flag, OldEvent, is_of, old_slot_of, old_event_in, old_events_from, old_event_at, old_released, old_held, own_old, after_held}
+use Rattle.old_image.proofs.Common.{◌≡◌, inl, inr, ℕ, zero, suc, ◌+◌, ◌<◌, ◌≤◌, ◌^◌, ◌==◌, max, Bool, true, false, List, [], ◌∷◌, length, take, Option, Some, None, refl, sym, ap, ◌∙◌, subst, arith, cases_lt, Memory, Program, thread_def, flag, OldEvent, is_of, old_slot_of, old_event_in, old_events_from, old_event_at, old_released, old_held, own_old, after_event, after_held}
+use mir.Val.{bool_byte}
 use Rattle.std.specs.Option.{is_some}
 use Rattle.old_image.proofs.OldQueues.{old_followed, old_events_told, old_event_read}
 
@@ -64,6 +65,10 @@ module _ (program : Program) (words : Memory) (t : ℕ) where
       k ≤ length (old_held program words t) → k ≡ length (old_held program words t)
   all_known first k o from at is le = seen_all k o (sym (at ∙ ap (λ n. seen (n + k)) from)) is le
 
+  -- the event of a place stands at its position
+  pub event_here : (first k : ℕ) → first ≡ old_released program words t → k < length (old_held program words t) → seen (first + k) ≡ Some (old_event_at (old_held program words t) k)
+  event_here first k from lt = ap (λ n. seen (n + k)) from ∙ held_seen k lt
+
   -- a position up to the end of them fits a word, where the first one does
   pub position_fits : (k : ℕ) → old_released program words t < 2 ^ 64 → k ≤ length (old_held program words t) → old_released program words t + k < 2 ^ 64
   position_fits zero released le = omega arith
@@ -78,9 +83,24 @@ own-more i (e ∷ held) (suc k) lt =
     let s : suc k + 1 ≡ suc (k + 1) = omega arith in
     rw s (omega (arith, more))
 
+pub byte_few : (b : Bool) → bool_byte b ≤ 1
+byte_few true = omega arith
+byte_few false = omega arith
+
+byte_flag : (b : Bool) → bool_byte b ≡ flag b
+byte_flag true = refl
+byte_flag false = refl
+
+-- one event more, of which a test tells whether it is an own one
+pub one_own : (i : ℕ) (held : List OldEvent) (k own : ℕ) (b : Bool) → k < length held → own ≡ own_old i (take k held) → b ≡ is_of i (old_event_at held k) →
+    own + bool_byte b ≡ own_old i (take (k + 1) held)
+one_own i held k own b lt so_far is =
+    let more = own-more i held k lt in
+    let byte : bool_byte b ≡ flag (is_of i (old_event_at held k)) = byte_flag b ∙ ap flag is in omega arith
+
 -- and the number after their readings
 pub after-more : (i : ℕ) (held : List OldEvent) (k : ℕ) → k < length held →
-    after_held i (take (k + 1) held) ≡ max (after_held i (take k held)) (if is_of i (old_event_at held k) then (old_event_at held k).reading + 1 else 0)
+    after_held i (take (k + 1) held) ≡ max (after_held i (take k held)) (after_event i (old_event_at held k))
 after-more i [] k lt = absurd (omega arith)
 after-more i (e ∷ held) zero lt = omega arith
 after-more i (e ∷ held) (suc k) lt =

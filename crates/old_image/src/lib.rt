@@ -4,10 +4,14 @@
 mod held;
 mod old_event;
 mod old_slot;
+mod origins;
 mod queue;
+mod queues;
+mod renewing;
 mod sources;
 mod worn;
 
 pub use old_event::OldEvent;
 pub use old_slot::{OldSlot, read_old_slot};
+pub use renewing::renew;
 pub use worn::is_worn_old;

@@ -1,7 +1,6 @@
 //! The queue of a thread in the earlier form: its slots, and how many of its events are released.
 
-ghost use Rattle.std.specs.Prelude.{◌≡◌, ◌<◌, ◌^◌, length};
-ghost use Rattle.std.specs.Option.{ForSome};
+ghost use Rattle.std.specs.Prelude.{◌≡◌, ◌<◌, ◌^◌, IfSome, length};
 ghost use Rattle.ink_layout.specs.Shape.{shape_of, words_of};
 ghost use Rattle.image_checks.specs.Board.{board};
 ghost use Rattle.old_image.specs.Told as told;
@@ -80,7 +79,7 @@ pub(crate) fn old_event_at(
     requires known { thread.0 < length plan.now.accepted.threads }
     ensures event { let memory = board plan.now.accepted words.now in
         result ≡ told.old_event_in plan.now.accepted thread.0 position (told.old_slot_of plan.now.accepted memory thread.0 position) }
-    ensures small { ForSome result (λ event. position < 2 ^ 21) }
+    ensures small { IfSome result (λ event. position < 2 ^ 21) }
 {
     old_event_in(
         plan,

@@ -1,7 +1,6 @@
 //! The sources in the earlier form: the seventh check.
 
-ghost use Rattle.std.specs.Prelude.{◌≡◌, ◌+◌, ◌<◌, ◌≤◌, ◌↔◌, IsTrue, length};
-ghost use Rattle.std.specs.Option.{ForSome, ForNone};
+ghost use Rattle.std.specs.Prelude.{◌≡◌, ◌+◌, ◌<◌, ◌≤◌, ◌↔◌, IfSome, IfNone, IsTrue, length};
 ghost use Rattle.fram_words.specs.Steps.{place_of};
 ghost use Rattle.ink_layout.specs.Shape.{IsOnBoard, shape_of, words_of};
 ghost use Rattle.image_checks.specs.Board.{board};
@@ -11,10 +10,11 @@ ghost use Rattle.old_image.specs.Image.{IsOldAckWord, IsOldSourceRight, IsRising
 ghost use Rattle.old_image.specs.Failing.{OldSourcesHold, IsOldSourceFault, IsFirstOldSourceFault};
 ghost use Rattle.prog_check.specs.Lookup.{source_thread};
 ghost use Rattle.old_image.specs.Renewed.{place_behind};
-ghost use Rattle.old_image.specs.kept.Parts.{FindsOwn, IsAckBefore};
+ghost use Rattle.old_image.specs.kept.Parts.{ComesAfter, FindsOwn, IsAckBefore};
 
 use crate::held::{after_first, count_for, event_for, is_of};
 use crate::queue::{is_old_finished, old_released};
+use crate::old_event::OldEvent;
 use fram_words::Place;
 use image_told::{fed, slot_place, word_at};
 use ink_base::SourceId;
@@ -23,9 +23,9 @@ use ink_layout::Plan;
 /// The first place at which a source fails, of the first source that has one.
 pub(crate) fn failing_old_source(plan: &Plan, words: &[u64]) -> Option<Place>
     requires { length words.now ≡ words_of (shape_of plan.now.accepted) }
-    ensures none { ForNone result (OldSourcesHold plan.now.accepted (board plan.now.accepted words.now)) }
-    ensures first { ForSome result (λ place. IsFirstOldSourceFault plan.now.accepted (board plan.now.accepted words.now) (place_of place)) }
-    ensures there { ForSome result (λ place. IsOnBoard plan.now.accepted (place_of place)) }
+    ensures none { IfNone result (OldSourcesHold plan.now.accepted (board plan.now.accepted words.now)) }
+    ensures first { IfSome result (λ place. IsFirstOldSourceFault plan.now.accepted (board plan.now.accepted words.now) (place_of place)) }
+    ensures there { IfSome result (λ place. IsOnBoard plan.now.accepted (place_of place)) }
 {
     for i in 0..plan.program().sources.len() {
         if let Some(place) = source_fault(plan, words, SourceId(i as u8)) {
@@ -35,21 +35,24 @@ pub(crate) fn failing_old_source(plan: &Plan, words: &[u64]) -> Option<Place>
     None
 }
 
-// The first place at which a source fails.
+// The place at which a source fails.
 fn source_fault(plan: &Plan, words: &[u64], source: SourceId) -> Option<Place>
     requires count { length words.now ≡ words_of (shape_of plan.now.accepted) }
     requires known { source.0 < length plan.now.accepted.sources }
-    ensures none { ForNone result (IsOldSourceRight plan.now.accepted (board plan.now.accepted words.now) source.0) }
-    ensures first { ForSome result (λ place. IsOldSourceFault plan.now.accepted (board plan.now.accepted words.now) source.0 (place_of place)) }
-    ensures there { ForSome result (λ place. IsOnBoard plan.now.accepted (place_of place)) }
+    ensures none { IfNone result (IsOldSourceRight plan.now.accepted (board plan.now.accepted words.now) source.0) }
+    ensures fault { IfSome result (λ place. IsOldSourceFault plan.now.accepted (board plan.now.accepted words.now) source.0 (place_of place)) }
+    ensures there { IfSome result (λ place. IsOnBoard plan.now.accepted (place_of place)) }
 {
-    if let Some(place) = failing_reading(plan, words, source) {
-        return Some(held_slot(plan, words, source, place));
+    match failing_reading(plan, words, source) {
+        Some(place) => Some(held_slot(plan, words, source, place)),
+        None => {
+            if is_ack_right(plan, words, source) {
+                None
+            } else {
+                Some(Place::Ack { source })
+            }
+        }
     }
-    if !is_ack_right(plan, words, source) {
-        return Some(Place::Ack { source });
-    }
-    None
 }
 
 // The first of the held events of the source's queue whose reading doesn't come after those of the source before it.
@@ -74,8 +77,15 @@ fn rises(plan: &Plan, words: &[u64], source: SourceId, place: u32) -> bool
     requires held { place < length (told.old_held_for plan.now.accepted (board plan.now.accepted words.now) source.0) }
     ensures { IsTrue result ↔ IsRisingReading plan.now.accepted (board plan.now.accepted words.now) source.0 place }
 {
-    let event = event_for(plan, words, source, place);
-    !is_of(source, event) || after_first(plan, words, source, place) <= event.reading as u32
+    let after = after_first(plan, words, source, place);
+    comes_after(source, event_for(plan, words, source, place), after)
+}
+
+// Whether an event isn't of the source, or its reading isn't before this one.
+fn comes_after(source: SourceId, event: OldEvent, after: u32) -> bool
+    ensures { IsTrue result ↔ ComesAfter source.0 event after }
+{
+    event.source != source || after <= event.reading as u32
 }
 
 // ACK is at most the number of the source's first held reading, or one more where that event is finished.
@@ -125,5 +135,6 @@ fn held_slot(plan: &Plan, words: &[u64], source: SourceId, place: u32) -> Place
     ensures there { IsOnBoard plan.now.accepted (place_of result) }
 {
     let thread = fed(plan, source);
-    slot_place(plan, thread, old_released(plan, words, thread) + place as u64)
+    let first = old_released(plan, words, thread);
+    slot_place(plan, thread, first + place as u64)
 }

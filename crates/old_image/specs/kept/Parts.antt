@@ -4,15 +4,28 @@ use Rattle.task_isa.specs.declared.program.Program.{Program}
 use Rattle.fram_words.specs.Places.{Memory, Slot, Ack}
 use Rattle.prog_check.specs.Lookup.{thread_def, source_thread}
 use Rattle.never_cut.specs.Stands.{flag}
+use Rattle.image_checks.specs.Failing.{IsFirstFault}
 use Rattle.old_image.specs.declared.old_event.OldEvent.{OldEvent}
 use Rattle.old_image.specs.Slots.{old_empty_word}
-use Rattle.old_image.specs.Told.{old_finished, old_held_for, old_event_at, old_origin_word}
-use Rattle.old_image.specs.Image.{is_old_finished_at}
+use Rattle.old_image.specs.Told.{old_finished, old_released, old_held_for, old_event_at, old_origin_word}
+use Rattle.old_image.specs.Image.{IsOldSlotWord, is_old_finished_at}
+use Rattle.old_image.specs.Failing.{AreOldSlots}
 
 -- the slot of a position has the empty word of the position, which fits its bits
 pub record IsFree (program : Program) (words : Memory) (t position : ℕ) : Type 0 where
   pub empty : words (Slot t (position % (thread_def program t).queue)) ≡ old_empty_word position
   pub fits : position < 2 ^ 21
+
+-- the position is that of the first slot that is wrong
+pub record IsFirstSlot (program : Program) (words : Memory) (t position : ℕ) : Type 0 where
+  pub k : ℕ
+  pub at : position ≡ old_released program words t + k
+  pub fault : IsFirstFault (IsOldSlotWord program words t) (thread_def program t).queue k
+
+-- it is, or no slot is wrong
+abbrev pub FindsSlot : Program → Memory → (t : ℕ) → (position : Option ℕ) → Type 0
+FindsSlot program words t None = AreOldSlots program words t
+FindsSlot program words t (Some position) = IsFirstSlot program words t position
 
 -- no earlier thread has a finished event
 abbrev pub AreUnfinishedBefore : Program → Memory → (t : ℕ) → Type 0
@@ -21,6 +34,10 @@ AreUnfinishedBefore program words t = (u : ℕ) → u < t → old_finished progr
 -- the words are those of the event's origin and value
 abbrev pub IsWordOf : OldEvent → (origin value : ℕ) → Type 0
 IsWordOf e origin value = (origin ≡ old_origin_word e) × (value ≡ e.value)
+
+-- the event isn't of source i, or its reading isn't before this one
+abbrev pub ComesAfter : (i : ℕ) → OldEvent → (after : ℕ) → Type 0
+ComesAfter i e after = e.source.0 ≡ i → after ≤ e.reading
 
 -- none of the first so many events is of source i
 abbrev pub NoneOwn : (i : ℕ) → List OldEvent → (count : ℕ) → Type 0

@@ -17,7 +17,9 @@ IsUnwornSource program listed words i = old_next program words i + slice_index l
 -- the stamp and the counts of a thread are below half their range, and its queue has positions for all readings that are listed
 pub record IsUnwornThread (program : Program) (listed : List ℕ) (words : Memory) (t : ℕ) : Type 0 where
   pub stamp : committed words t header.stamp < 2 ^ 31
-  pub services : (w : ℕ) → header.served ≤ w → w ≤ header.expired → committed words t w < 2 ^ 31
+  pub served : committed words t header.served < 2 ^ 31
+  pub trapped : committed words t header.trapped < 2 ^ 31
+  pub expired : committed words t header.expired < 2 ^ 31
   pub positions : old_published program words t + listed_into program listed t (length program.sources) ≤ greatest_tail
 
 -- the counts of a pipe's items are below half their range
