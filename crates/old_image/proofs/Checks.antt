@@ -1,5 +1,5 @@
 -- What the checks of the earlier form ask, told of the numbers that the code compares.
-use Rattle.old_image.proofs.Common.{◌≡◌, ◌≢◌, ◌↔◌, IsTrue, inl, inr, ℕ, zero, suc, ◌+◌, ◌*◌, ◌-◌, ◌/◌, ◌%◌, ◌^◌, ◌<◌, ◌≤◌, ◌==◌, ◌&&◌, max, Bool, true, false, if◌then◌else◌, List, [], ◌∷◌, length, take, Option, Some, None, refl, sym, ap, ◌∙◌, subst, arith, eqb-true, eq-eqb, cases_Bool, cases_lt, Memory, Ack, Slot, Program, thread_def, source_thread, SourceId, Origin, origin_word, committed, flag, HasChain, IsBlockWord, IsChainOrigin, OldEvent, OldSlot, is_of, old_slot_in, old_slot_of, old_event_at, old_released, old_held, old_held_for, own_old, after_held, HasSourceChain, IsOldBlockWord, IsOldOrigin, IsOldSlotWord, IsRisingReading, IsOldAckWord, is_old_finished_at}
+use Rattle.old_image.proofs.Common.{◌≡◌, ◌≢◌, ◌↔◌, IsTrue, inl, inr, ℕ, zero, suc, ◌+◌, ◌*◌, ◌-◌, ◌/◌, ◌%◌, ◌^◌, ◌<◌, ◌≤◌, ◌==◌, ◌&&◌, max, Bool, true, false, if◌then◌else◌, List, [], ◌∷◌, length, take, Option, Some, None, refl, sym, ap, ◌∙◌, subst, arith, eqb-true, eq-eqb, lt-ltb, ltb-true, nat_lt, and_from, and_parts, cases_Bool, cases_lt, Memory, Ack, Slot, Program, thread_def, source_thread, SourceId, Origin, origin_word, committed, flag, HasChain, IsBlockWord, IsChainOrigin, OldEvent, OldSlot, is_of, feeds, old_slot_in, old_slot_of, old_event_at, old_released, old_held, old_held_for, own_old, after_held, HasSourceChain, IsOldBlockWord, IsOldOrigin, IsOldSlotWord, IsRisingReading, IsOldAckWord, is_old_finished_at}
 use Rattle.ink_base.specs.declared.event.Origin.TheVariants as origins
 use Rattle.fram_words.specs.Header as header
 use Rattle.prog_check.specs.Accepted.{IsAccepted}
@@ -145,3 +145,34 @@ rises_told program words i place e after {r} lt is so_far test =
       λ yes own. rising program words i place lt (told.0 yes own) own,
       λ rises. told.1 (λ own. above program words i place lt own rises),
     )
+
+-- a word of the kind of a source's event is right where the number in it is that of a source of the thread
+module _ (program : Program) (t word number : ℕ) (accepted : IsAccepted program) (kind : word / 2 ^ 56 ≡ 1) (is : number ≡ word % 2 ^ 56 / 2 ^ 16) where
+  source_number : (w : IsSourceWord program t word) → w.source.0 ≡ number
+  source_number w =
+      let few = accepted.counts.sources in let lt = w.known in let fits = w.fits in let at = w.is in omega arith
+
+  pub source_word : {r : Bool} → r ≡ feeds program t number → (IsTrue r ↔ IsSourceWord program t word)
+  source_word {r} test = (
+    λ yes.
+        let own = and_parts (nat_lt number (length program.sources)) (source_thread program number == t) (sym test ∙ yes) in
+        record {
+          source = record { 0 = number };
+          reading = word % 2 ^ 16;
+          is = omega arith;
+          known = ltb-true _ _ own.0;
+          own = eqb-true _ _ own.1;
+          fits = omega arith;
+        },
+    λ w.
+        let same = source_number w in
+        let known : number < length program.sources = let lt = w.known in omega arith in
+        let own : source_thread program number ≡ t = subst (λ n. source_thread program n ≡ t) same w.own in
+        test ∙ and_from (nat_lt number (length program.sources)) _ (lt-ltb _ _ known) (eq-eqb _ _ own),
+  )
+
+  pub no_source_word : {r : Bool} → 256 ≤ number → r ≡ false → (IsTrue r ↔ IsSourceWord program t word)
+  no_source_word {r} great failed = (
+    λ yes. absurd (let clash : false ≡ true = sym failed ∙ yes in cc),
+    λ w. absurd (let same = source_number w in let few = accepted.counts.sources in let lt = w.known in omega arith),
+  )

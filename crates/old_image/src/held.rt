@@ -35,7 +35,8 @@ pub(crate) fn old_held_count(plan: &Plan, words: &[u64], thread: ThreadId) -> u3
 pub(crate) fn old_published(plan: &Plan, words: &[u64], thread: ThreadId) -> u128
     requires count { length words.now ≡ words_of (shape_of plan.now.accepted) }
     requires known { thread.0 < length plan.now.accepted.threads }
-    ensures { result ≡ told.old_published plan.now.accepted (board plan.now.accepted words.now) thread.0 }
+    ensures number { result ≡ told.old_published plan.now.accepted (board plan.now.accepted words.now) thread.0 }
+    ensures fits { result < 2 ^ 65 }
 {
     old_released(plan, words, thread) as u128 + old_held_count(plan, words, thread) as u128
 }
@@ -121,7 +122,7 @@ pub(crate) fn after_first(plan: &Plan, words: &[u64], source: SourceId, place: u
     ensures { let memory = board plan.now.accepted words.now in
         result ≡ told.after_held source.0 (take place (told.old_held_for plan.now.accepted memory source.0)) }
 {
-    let mut after = 0;
+    let mut after: u32 = 0;
     for k in 0..place {
         after = after.max(after_event(source, event_for(plan, words, source, k)));
     }

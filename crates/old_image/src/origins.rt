@@ -30,6 +30,8 @@ pub(crate) fn is_source_word(plan: &Plan, thread: ThreadId, word: u64) -> bool
     requires { word / 2 ^ 56 ≡ 1 }
     ensures { IsTrue result ↔ IsSourceWord plan.now.accepted thread.0 word }
 {
+    // A program has few sources.
+    let _program = plan.program();
     let number = word % (1 << 56) / (1 << 16);
     number < 256 && feeds(plan, thread, SourceId(number as u8))
 }

@@ -33,10 +33,16 @@ pub fn is_worn_old(plan: &Plan, listed: &[u32], words: &[u64]) -> bool
     requires listed { length listed.now ≡ length plan.now.accepted.sources }
     ensures { IsTrue result ↔ IsOldWorn plan.now.accepted listed.now (board plan.now.accepted words.now) }
 {
-    word_at(plan, words, Place::Clock) >= HALF_CLOCK
-        || has_worn_source(plan, listed, words)
-        || has_worn_thread(plan, listed, words)
-        || has_worn_pipe(plan, words)
+    if word_at(plan, words, Place::Clock) >= HALF_CLOCK {
+        return true;
+    }
+    if has_worn_source(plan, listed, words) {
+        return true;
+    }
+    if has_worn_thread(plan, listed, words) {
+        return true;
+    }
+    has_worn_pipe(plan, words)
 }
 
 // Whether some source has no numbers left for all readings that are listed for it.
@@ -63,7 +69,8 @@ fn is_worn_source(plan: &Plan, listed: &[u32], words: &[u64], source: SourceId) 
         result ≡ nat_lt limits.READINGS (told.old_next plan.now.accepted memory source.0 + slice_index listed.now source.0) }
 {
     let next = old_next(plan, words, source) as u128;
-    next + listed[source.0 as usize] as u128 > limits::READINGS as u128
+    let coming = listed[source.0 as usize] as u128;
+    next + coming > limits::READINGS as u128
 }
 
 // Whether some thread is worn: its numbers, or its queue.
@@ -89,11 +96,23 @@ fn is_worn_thread(plan: &Plan, listed: &[u32], words: &[u64], thread: ThreadId) 
     ensures { let memory = board plan.now.accepted words.now in
         MatchBool result (IsOldWorn plan.now.accepted listed.now memory) (IsUnwornThread plan.now.accepted listed.now memory thread.0) }
 {
-    header_word(plan, words, thread, Header::Stamp) >= HALF_COUNT
-        || header_word(plan, words, thread, Header::Served) >= HALF_COUNT
-        || header_word(plan, words, thread, Header::Trapped) >= HALF_COUNT
-        || header_word(plan, words, thread, Header::Expired) >= HALF_COUNT
-        || is_worn_queue(plan, listed, words, thread)
+    let stamp = header_word(plan, words, thread, Header::Stamp);
+    let served = header_word(plan, words, thread, Header::Served);
+    let trapped = header_word(plan, words, thread, Header::Trapped);
+    let expired = header_word(plan, words, thread, Header::Expired);
+    if stamp >= HALF_COUNT {
+        return true;
+    }
+    if served >= HALF_COUNT {
+        return true;
+    }
+    if trapped >= HALF_COUNT {
+        return true;
+    }
+    if expired >= HALF_COUNT {
+        return true;
+    }
+    is_worn_queue(plan, listed, words, thread)
 }
 
 // Whether the queue of a thread has no positions left for all readings that are listed for its sources.
