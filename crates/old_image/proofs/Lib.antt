@@ -12,3 +12,4 @@ pub mod Stages
 pub mod Unworn
 pub mod Puts
 pub mod QueueSlots
+pub mod NewWords

@@ -29,4 +29,4 @@ module _ (program : Program) (old new : Memory) (renewed : IsRenewed program old
   was_worn listed (worn.ManyPositions t known many) = was.ManyPositions t known (omega (arith, published_same program old new renewed accepted image t known))
 
   pub stays_fresh : StayFresh program old new
-  stays_fresh listed fresh is = fresh (was_worn listed is)
+  stays_fresh = record { fresh = λ listed fresh is. fresh (was_worn listed is) }

@@ -55,5 +55,5 @@ pub record IsRenewed (program : Program) (old new : Memory) : Type 0 where
   pub same : (p : Place) → Stays old p → new p ≡ old p
 
 -- words that aren't worn in the earlier form aren't worn in today's
-abbrev pub StayFresh : Program → (old new : Memory) → Type 0
-StayFresh program old new = (listed : List ℕ) → ¬ IsOldWorn program listed old → ¬ IsWorn program listed new
+pub record StayFresh (program : Program) (old new : Memory) : Type 0 where
+  pub fresh : (listed : List ℕ) → ¬ IsOldWorn program listed old → ¬ IsWorn program listed new

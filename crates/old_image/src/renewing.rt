@@ -1,13 +1,13 @@
 //! The change of an image of the earlier form to today's words.
 
-ghost use Rattle.std.specs.Prelude.{◌≡◌, ◌+◌, ◌^◌, ◌<◌, ◌≤◌, length, IfOk};
+ghost use Rattle.std.specs.Prelude.{◌≡◌, ◌+◌, ◌^◌, ◌<◌, ◌≤◌, length, take, IfOk};
 ghost use Rattle.fram_words.specs.Changes.{Becomes};
 ghost use Rattle.fram_words.specs.Header as header;
 ghost use Rattle.fram_words.specs.Held as held;
 ghost use Rattle.thread_state.specs.Pages.{committed};
 ghost use Rattle.fram_words.specs.Steps.{place_of};
 ghost use Rattle.push_core.specs.Slots.{empty_word};
-ghost use Rattle.prog_check.specs.Lookup.{thread_def};
+ghost use Rattle.prog_check.specs.Lookup.{source_thread, thread_def};
 ghost use Rattle.ink_layout.specs.Shape.{IsOnBoard, shape_of, words_of};
 ghost use Rattle.never_cut.specs.Image.{IsImage};
 ghost use Rattle.image_checks.specs.Board.{board};
@@ -41,11 +41,26 @@ pub fn renew(alloc: Global, plan: &Plan, words: &[u64]) -> Result<Vec<u64>, NoMe
     ensures fresh { IfOk result (λ new. StayFresh plan.now.accepted (board plan.now.accepted words.now) (board plan.now.accepted new.items)) }
 {
     let mut new = words.to_vec(alloc)?;
-    renew_all(plan, words, new.as_mut_slice());
+    renew_copy(plan, words, new.as_mut_slice());
     Ok(new)
 }
 
 // The same, over a copy of the words.
+fn renew_copy(plan: &Plan, words: &[u64], new: &mut [u64])
+    requires count { length words.now ≡ words_of (shape_of plan.now.accepted) }
+    requires image { IsOldImage plan.now.accepted (board plan.now.accepted words.now) }
+    requires fresh { IsFresh plan.now.accepted (board plan.now.accepted words.now) }
+    requires copied { new.old ≡ words.now }
+    ensures changed { IsRenewed plan.now.accepted (board plan.now.accepted words.now) (board plan.now.accepted new.new) }
+    ensures image { IsImage plan.now.accepted (board plan.now.accepted new.new) }
+    ensures fresh { StayFresh plan.now.accepted (board plan.now.accepted words.now) (board plan.now.accepted new.new) }
+{
+    // The program is accepted, which the checks of an image rest on.
+    let _program = plan.program();
+    renew_all(plan, words, new);
+}
+
+// The sources, the origins of running chains, and the queues.
 fn renew_all(plan: &Plan, words: &[u64], new: &mut [u64])
     requires count { length words.now ≡ words_of (shape_of plan.now.accepted) }
     requires image { IsOldImage plan.now.accepted (board plan.now.accepted words.now) }
@@ -136,10 +151,10 @@ fn renew_queue(plan: &Plan, words: &[u64], new: &mut [u64], thread: ThreadId)
     ensures { let program = plan.now.accepted in
         SlotsRenewed program (board program words.now) (board program new.old) (board program new.new) thread.0 (thread_def program thread.0).queue }
 {
-    let first = old_released(plan, words, thread);
     for k in 0..places(plan, thread) as u32 {
+        let position = position_behind(plan, words, thread, k);
         let word = renewed_slot(plan, words, thread, k);
-        put(plan, new, slot_place(plan, thread, first + k as u64), word);
+        put(plan, new, slot_place(plan, thread, position as u64), word);
     }
 }
 
@@ -155,14 +170,55 @@ fn renewed_slot(plan: &Plan, words: &[u64], thread: ThreadId, place: u32) -> u64
     ensures empty { let memory = board plan.now.accepted words.now in
         length (told.old_held plan.now.accepted memory thread.0) ≤ place → result ≡ empty_word (told.old_released plan.now.accepted memory thread.0 + place) }
 {
-    let position = (old_released(plan, words, thread) + place as u64) as u32;
     if place < old_held_count(plan, words, thread) {
-        let event = old_held_event(plan, words, thread, place);
-        let count = own_before(plan, words, event.source, place) as u8;
-        full(position, event.source, count, event.value as u32)
+        renewed_held(plan, words, thread, place)
     } else {
-        empty(position)
+        empty(position_behind(plan, words, thread, place))
     }
+}
+
+// The new word of a held event: its count is the number of its source's events before it.
+fn renewed_held(plan: &Plan, words: &[u64], thread: ThreadId, place: u32) -> u64
+    requires count { length words.now ≡ words_of (shape_of plan.now.accepted) }
+    requires image { IsOldImage plan.now.accepted (board plan.now.accepted words.now) }
+    requires known { thread.0 < length plan.now.accepted.threads }
+    requires held { place < length (told.old_held plan.now.accepted (board plan.now.accepted words.now) thread.0) }
+    ensures { let memory = board plan.now.accepted words.now in
+        result ≡ renewed_word (told.old_released plan.now.accepted memory thread.0 + place) (told.old_held plan.now.accepted memory thread.0) place }
+{
+    let event = old_held_event(plan, words, thread, place);
+    let count = count_of(plan, words, thread, event.source, place);
+    let position = position_behind(plan, words, thread, place);
+    full(position, event.source, count, event.value as u32)
+}
+
+// How many of the first so many events of a thread's queue are of a source of the thread.
+fn count_of(plan: &Plan, words: &[u64], thread: ThreadId, source: SourceId, place: u32) -> u8
+    requires count { length words.now ≡ words_of (shape_of plan.now.accepted) }
+    requires known { source.0 < length plan.now.accepted.sources }
+    requires own { source_thread plan.now.accepted source.0 ≡ thread.0 }
+    requires fed { thread.0 < length plan.now.accepted.threads }
+    requires held { place < length (told.old_held plan.now.accepted (board plan.now.accepted words.now) thread.0) }
+    ensures own { let memory = board plan.now.accepted words.now in
+        result ≡ told.own_old source.0 (take place (told.old_held plan.now.accepted memory thread.0)) }
+    ensures few { result < 32 }
+{
+    // A queue has few places.
+    let _program = plan.program();
+    own_before(plan, words, source, place) as u8
+}
+
+// The position so many places behind the first.
+fn position_behind(plan: &Plan, words: &[u64], thread: ThreadId, place: u32) -> u32
+    requires count { length words.now ≡ words_of (shape_of plan.now.accepted) }
+    requires image { IsOldImage plan.now.accepted (board plan.now.accepted words.now) }
+    requires known { thread.0 < length plan.now.accepted.threads }
+    requires inside { place < (thread_def plan.now.accepted thread.0).queue }
+    ensures position { result ≡ told.old_released plan.now.accepted (board plan.now.accepted words.now) thread.0 + place }
+    ensures fits { result < 2 ^ 21 }
+{
+    let first = old_released(plan, words, thread);
+    (first + place as u64) as u32
 }
 
 // Stores a word of the board.
