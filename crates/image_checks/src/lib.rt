@@ -4,11 +4,15 @@
 mod blocks;
 mod chains;
 mod code;
+mod first;
 mod headers;
 mod logs;
 mod owners;
 mod pipes;
+mod queues;
+mod sources;
 
+pub use first::first_failing;
 
 #[cfg(test)]
 mod tests {
