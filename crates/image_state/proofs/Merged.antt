@@ -5,10 +5,10 @@ use Rattle.std.specs.Ordering.{is_lt, nat_cmp}
 use Rattle.std.proofs.lemmas.List.Kept.{IsNonDecreasingBy-filter}
 
 -- what a comparison of numbers tells
-is_less : (a b : ℕ) → a < b → is_lt (nat_cmp a b) ≡ true
+pub is_less : (a b : ℕ) → a < b → is_lt (nat_cmp a b) ≡ true
 is_less a b less = rw (lt-ltb a b less) refl
 
-not_less : (a b : ℕ) → b ≤ a → is_lt (nat_cmp a b) ≡ false
+pub not_less : (a b : ℕ) → b ≤ a → is_lt (nat_cmp a b) ≡ false
 not_less a b le = rw (le-ltb a b le) (elim (cases_Bool (a == b)) [ inl same ↦ rw same refl | inr other ↦ rw other refl ])
 
 -- an output comes before another by its stamp

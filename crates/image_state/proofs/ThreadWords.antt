@@ -53,6 +53,9 @@ module _ (program : Program) (words : Memory) (accepted : IsAccepted program) (i
   event_told : HasChain words t → told_event words t ≡ Some (record { origin = origin_of (committed words t header.origin); value = committed words t header.value })
   event_told chain = ap (λ (b : Bool). if b then None else Some (record { origin = origin_of (committed words t header.origin); value = committed words t header.value })) (ne_eqb _ _ chain)
 
+  pub event_is : HasChain words t → Some (record { origin = origin_of (committed words t header.origin); value = committed words t header.value }) ≡ told_event words t
+  event_is chain = sym (event_told chain)
+
   -- the origin of its event is its own, and is what its word was made of
   own_origin : HasChain words t → IsOwnOrigin program t (origin_of (committed words t header.origin)) × (committed words t header.origin ≡ origin_word (origin_of (committed words t header.origin)))
   own_origin chain =

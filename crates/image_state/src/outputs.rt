@@ -14,6 +14,7 @@ use ink_layout::Plan;
 use std::alloc::Global;
 
 /// The outputs of all threads in the order of their stamps, those of one stamp in the order of their log.
+#[tactic(auto, using(crate::proofs::Each::until_more))]
 pub(crate) fn outputs_told(
     alloc: Global,
     plan: &Plan,
@@ -31,7 +32,6 @@ pub(crate) fn outputs_told(
 }
 
 // Adds the outputs of a thread, as they stand in its log.
-#[tactic(auto, using(crate::proofs::Each::each_more))]
 fn put_outputs(
     outputs: &mut Vec<Output>,
     plan: &Plan,
