@@ -1,5 +1,5 @@
 -- A stable sort by stamps leaves the outputs of each thread as they stand in its log.
-use Rattle.image_state.proofs.Common.{◌≡◌, ◌≢◌, inl, inr, ℕ, zero, suc, ◌+◌, ◌<◌, ◌≤◌, ◌==◌, Bool, true, false, cond, List, [], ◌∷◌, length, get_or, refl, sym, ap, ◌∙◌, subst, arith, nat_lt, le-ltb, lt-ltb, filter, All, cases_lt, cases_Bool, Output, IsNonDecreasingBy, IsPermutation, outputs_in, AreInOrder}
+use Rattle.image_state.proofs.Common.{◌≡◌, ◌≢◌, inl, inr, ℕ, suc, ◌<◌, ◌≤◌, ◌==◌, Bool, true, false, cond, List, [], ◌∷◌, length, get_or, refl, sym, ap, ◌∙◌, arith, le-ltb, lt-ltb, filter, cases_lt, cases_Bool, Output, IsNonDecreasingBy, IsPermutation, AreInOrder}
 use Rattle.std.specs.List.Sorted.{IsStableByKey, ties}
 use Rattle.std.specs.Ordering.{is_lt, nat_cmp}
 use Rattle.std.proofs.lemmas.List.Kept.{IsNonDecreasingBy-filter}

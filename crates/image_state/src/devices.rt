@@ -36,12 +36,7 @@ pub(crate) fn pipes_told(
 }
 
 #[tactic(auto, using(crate::proofs::Each::each_more))]
-fn pipe_told(
-    alloc: Global,
-    plan: &Plan,
-    words: &[u64],
-    pipe: PipeId,
-) -> Result<PipeModel, NoMemory>
+fn pipe_told(alloc: Global, plan: &Plan, words: &[u64], pipe: PipeId) -> Result<PipeModel, NoMemory>
     requires image { IsImageOf plan.now.accepted words.now }
     requires known { pipe.0 < length plan.now.accepted.pipes }
     ensures { IfOk result (λ x. x ≡ told_pipe plan.now.accepted (by_place plan.now.accepted words.now) pipe.0) }

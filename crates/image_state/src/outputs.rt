@@ -67,10 +67,7 @@ fn output_told(plan: &Plan, words: &[u64], thread: ThreadId, index: u32) -> Outp
     requires within { index < (thread_def plan.now.accepted thread.0).log }
     ensures { result ≡ told_output (by_place plan.now.accepted words.now) thread.0 index }
 {
-    read_output(
-        thread,
-        word_at(plan, words, Place::Log { thread, index }),
-    )
+    read_output(thread, word_at(plan, words, Place::Log { thread, index }))
 }
 
 // These outputs in the order of their stamps.

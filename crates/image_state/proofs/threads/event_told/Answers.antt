@@ -1,5 +1,4 @@
-use Rattle.image_state.proofs.Common.{◌≡◌, ◌∙◌, ℕ, ap, sym, arith, Some, Origin, origin_of, committed, by_place, HasChain}
-use Rattle.fram_words.specs.Header as header
+use Rattle.image_state.proofs.Common.{◌∙◌, ap, arith, Some, origin_of, by_place, HasChain}
 use Rattle.image_state.proofs.ThreadWords.{event_is, value_small}
 use Rattle.image_state.proofs.threads.event_told.Goals as goal
 
