@@ -102,7 +102,8 @@ module _ {X : Type 0} (n : X → ℕ) (p : X → X → Bool) (tie : (x y : X) �
       ]
 
   -- a part of a list by another test is left by a stable sort as it was, where it didn't fall before
-  pub part_kept : (q : X → Bool) (xs ys : List X) → IsNonDecreasingBy n ys → ((x : X) → filter (p x) ys ≡ filter (p x) xs) → IsNonDecreasingBy n (filter q xs) → filter q ys ≡ filter q xs
+  pub part_kept : (q : X → Bool) (xs ys : List X) → IsNonDecreasingBy n ys → ((x : X) → filter (p x) ys ≡ filter (p x) xs) →
+      IsNonDecreasingBy n (filter q xs) → filter q ys ≡ filter q xs
   part_kept q xs ys rise same up =
       same_likes (filter q ys) (filter q xs) (IsNonDecreasingBy-filter n q ys rise) up
       (λ x. filter-swap (p x) q ys ∙ (ap (filter q) (same x) ∙ filter-swap q (p x) xs))

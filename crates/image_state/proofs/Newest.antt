@@ -13,7 +13,8 @@ greater a b =
       | inr ge ↦ rw (not_less b a ge) (omega (arith, ge))
     ]
 
-pub newest_more : (words : Memory) (count old new : ℕ) → new ≡ ord_max nat_cmp old (committed words count header.stamp) → IsNewest words count old → IsNewest words (count + 1) new
+pub newest_more : (words : Memory) (count old new : ℕ) → new ≡ ord_max nat_cmp old (committed words count header.stamp) → IsNewest words count old →
+    IsNewest words (count + 1) new
 newest_more words count old new from h =
     let is : new ≡ max old (committed words count header.stamp) = from ∙ greater old (committed words count header.stamp) in
     record {

@@ -29,7 +29,8 @@ no_page program t p b k known past =
     false_second (has_indices (shape_of program) (Page t p b k)) _ (le-ltb _ _ (omega (arith, size)))
 
 -- a word of a committed copy beyond the thread's pages is 0
-pub beyond_pages : (program : Program) (words : List ℕ) (t w : ℕ) → t < length program.threads → 8 * pages_of (thread_def program t) ≤ w → committed (by_place program words) t w ≡ 0
+pub beyond_pages : (program : Program) (words : List ℕ) (t w : ℕ) → t < length program.threads → 8 * pages_of (thread_def program t) ≤ w →
+    committed (by_place program words) t w ≡ 0
 beyond_pages program words t w known past =
     let mask : ℕ = by_place program words (Commit t) in
     nothing_at program words (place_in t mask w) (no_page program t (w / 8) (bit_at mask (w / 8)) (w % 8) known (omega arith))

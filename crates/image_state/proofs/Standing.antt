@@ -28,7 +28,8 @@ are_listed program listed m i known =
     ∙ length-replicate ((source_of m i).next + slice_index listed i) 0
 
 -- and by the law of images they stand for it
-pub words_stand : EveryImageStands → (program : Program) (listed : List ℕ) (words : Memory) (m : Model) → IsAccepted program → IsImage program words → ¬ IsWorn program listed words →
+pub words_stand : EveryImageStands → (program : Program) (listed : List ℕ) (words : Memory) (m : Model) → IsAccepted program → IsImage program words →
+    ¬ IsWorn program listed words →
     IsReadOff program words m → Stands words program m
 words_stand law program listed words m accepted image fresh read =
     (law program (each_below (readings_behind m listed) (length program.sources)) listed words m accepted image fresh read (are_listed program listed m)).stands

@@ -93,7 +93,8 @@ module _ (program : Program) (words : Memory) (m : Model) (accepted : IsAccepted
           | inl own ↦
               let there : j < length program.timers = ltb-true _ _ (and_parts _ _ own).0 in
               let thread : (timer_def program j).thread.0 ≡ t = eqb-true _ _ (and_parts _ _ own).1 in
-              ap (λ u. committed words u (header.period j)) (sym thread) ∙ (sym (ap (λ (x : TimerModel). x.period) (timer_is j there)) ∙ sym (ap (λ (b : Bool). if b then (timer_of m j).period else 0) own))
+              ap (λ u. committed words u (header.period j)) (sym thread)
+              ∙ (sym (ap (λ (x : TimerModel). x.period) (timer_is j there)) ∙ sym (ap (λ (b : Bool). if b then (timer_of m j).period else 0) own))
           | inr not ↦ (checked program words accepted image t known (header.period j) (omega arith)).foreign_period j few refl not
               ∙ sym (ap (λ (b : Bool). if b then (timer_of m j).period else 0) not)
         ]
@@ -114,7 +115,8 @@ module _ (program : Program) (words : Memory) (m : Model) (accepted : IsAccepted
           due = due_told;
           period = period_told;
           unused = λ w from below. (checked program words accepted image t known w below).unused from below;
-          state = λ w behind. state_told program words accepted image t known (λ v. beyond t v known) w behind ∙ sym (ap (λ (x : ThreadModel). slice_index x.state (w - header.words)) is);
+          state = λ w behind. state_told program words accepted image t known (λ v. beyond t v known) w behind
+              ∙ sym (ap (λ (x : ThreadModel). slice_index x.state (w - header.words)) is);
         }
 
     -- the outputs stand in the log
@@ -132,8 +134,8 @@ module _ (program : Program) (words : Memory) (m : Model) (accepted : IsAccepted
       origin = committed words t header.origin;
       value = committed words t header.value;
       block = block_says (committed words t) (saved program m t) words_are;
-      event = subst (λ (x : ThreadModel). ForSome x.event (λ e. (committed words t header.origin ≡ origin_word e.origin) × (committed words t header.value ≡ e.value))) (sym (thread_is t known))
-          (words_told program words accepted image t known);
+      event = subst (λ (x : ThreadModel). ForSome x.event (λ e. (committed words t header.origin ≡ origin_word e.origin) × (committed words t header.value ≡ e.value)))
+          (sym (thread_is t known)) (words_told program words accepted image t known);
       log = logged;
       reached = subst (All (λ (o : Output). o.stamp ≤ committed words t header.stamp)) (sym (outputs_are t known))
           (each_told words (λ (o : Output). o.stamp ≤ committed words t header.stamp) t (λ n lt. (image.logs t n known lt).most));
@@ -143,7 +145,8 @@ module _ (program : Program) (words : Memory) (m : Model) (accepted : IsAccepted
     event_of : HasEventOf program m t
     event_of = record {
       idle = subst (λ (x : ThreadModel). ForNone x.running (x.event ≡ None)) (sym (thread_is t known)) (idle_told program words accepted image t known);
-      chain = subst (λ (x : ThreadModel). ForSome x.running (λ task. (e : Event) × (x.event ≡ Some e) × IsOwnOrigin program t e.origin)) (sym (thread_is t known)) (chain_told program words accepted image t known);
+      chain = subst (λ (x : ThreadModel). ForSome x.running (λ task. (e : Event) × (x.event ≡ Some e) × IsOwnOrigin program t e.origin))
+          (sym (thread_is t known)) (chain_told program words accepted image t known);
     }
 
   pipe_stands : (q : ℕ) → q < length program.pipes → StandsPipe words program m q
