@@ -13,9 +13,3 @@ mod queues;
 mod sources;
 
 pub use first::first_failing;
-
-#[cfg(test)]
-mod tests {
-    #[test]
-    fn nothing() {}
-}
