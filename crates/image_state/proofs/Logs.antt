@@ -1,5 +1,5 @@
 -- The outputs that the logs tell.
-use Rattle.image_state.proofs.Common.{◌≡◌, ◌≢◌, inl, inr, ℕ, zero, suc, ◌+◌, ◌%◌, ◌^◌, ◌<◌, ◌≤◌, ◌==◌, ◌++◌, Bool, true, false, cond, List, [], ◌∷◌, length, get_or, refl, sym, ap, ◌∙◌, subst, arith, rules, filter, eq-eqb, ne_eqb, cases_eq, cases_lt, All, All-append, All-nil, filter-append, append-nil, get_or-map-range_with_len, length-map-range_with_len, Output, Program, Memory, committed, IsImage, IsNonDecreasingBy, IsOutputOf, outputs_in, told_output, told_outputs, outputs_until}
+use Rattle.image_state.proofs.Common.{◌≡◌, ◌≢◌, inl, inr, ℕ, zero, suc, ◌+◌, ◌<◌, ◌≤◌, ◌==◌, ◌++◌, Bool, true, false, List, [], ◌∷◌, length, get_or, refl, sym, ap, ◌∙◌, subst, arith, filter, eq-eqb, ne_eqb, cases_eq, All, All-append, All-nil, filter-append, append-nil, get_or-map-range_with_len, length-map-range_with_len, Output, Program, Memory, committed, IsImage, IsNonDecreasingBy, IsOutputOf, outputs_in, told_output, told_outputs, outputs_until}
 use Rattle.std.proofs.lemmas.List.Sorted.{IsNonDecreasingBy-from_all_adjacent}
 use Rattle.fram_words.specs.Header as header
 
@@ -60,6 +60,6 @@ module _ (words : Memory) where
   log_rises program t image known =
       IsNonDecreasingBy-from_all_adjacent (λ (o : Output). o.stamp) (told_outputs words t)
       (λ k d lt.
-        let is = count_is t in
-        let right = image.logs t (k + 1) known (omega (arith, is, lt)) in
-        subst (λ (z : Output × Output). z.0.stamp ≤ z.1.stamp) (λ i. (sym (output_is t k d (omega arith)) i, sym (output_is t (k + 1) d lt) i)) (right.ordered k refl))
+      let is = count_is t in
+      let right = image.logs t (k + 1) known (omega (arith, is, lt)) in
+      subst (λ (z : Output × Output). z.0.stamp ≤ z.1.stamp) (λ i. (sym (output_is t k d (omega arith)) i, sym (output_is t (k + 1) d lt) i)) (right.ordered k refl))

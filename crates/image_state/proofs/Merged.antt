@@ -1,14 +1,14 @@
 -- A stable sort by stamps leaves the outputs of each thread as they stand in its log.
-use Rattle.image_state.proofs.Common.{◌≡◌, ◌≢◌, inl, inr, ℕ, zero, suc, ◌+◌, ◌<◌, ◌≤◌, ◌==◌, Bool, true, false, cond, List, [], ◌∷◌, length, get_or, refl, sym, ap, ◌∙◌, subst, arith, nat_lt, le-ltb, lt-ltb, filter, All, cases_lt, cases_Bool, Output, IsNonDecreasingBy, IsPermutation, outputs_in, AreInOrder}
+use Rattle.image_state.proofs.Common.{◌≡◌, ◌≢◌, inl, inr, ℕ, suc, ◌<◌, ◌≤◌, ◌==◌, Bool, true, false, cond, List, [], ◌∷◌, length, get_or, refl, sym, ap, ◌∙◌, arith, le-ltb, lt-ltb, filter, cases_lt, cases_Bool, Output, IsNonDecreasingBy, IsPermutation, AreInOrder}
 use Rattle.std.specs.List.Sorted.{IsStableByKey, ties}
 use Rattle.std.specs.Ordering.{is_lt, nat_cmp}
 use Rattle.std.proofs.lemmas.List.Kept.{IsNonDecreasingBy-filter}
 
 -- what a comparison of numbers tells
-is_less : (a b : ℕ) → a < b → is_lt (nat_cmp a b) ≡ true
+pub is_less : (a b : ℕ) → a < b → is_lt (nat_cmp a b) ≡ true
 is_less a b less = rw (lt-ltb a b less) refl
 
-not_less : (a b : ℕ) → b ≤ a → is_lt (nat_cmp a b) ≡ false
+pub not_less : (a b : ℕ) → b ≤ a → is_lt (nat_cmp a b) ≡ false
 not_less a b le = rw (le-ltb a b le) (elim (cases_Bool (a == b)) [ inl same ↦ rw same refl | inr other ↦ rw other refl ])
 
 -- an output comes before another by its stamp

@@ -1,5 +1,5 @@
 -- What the words tell of a page that a thread doesn't have.
-use Rattle.image_state.proofs.Common.{◌≡◌, inl, inr, ℕ, zero, suc, ◌+◌, ◌*◌, ◌/◌, ◌%◌, ◌<◌, ◌≤◌, ◌&&◌, ◌++◌, Bool, true, false, List, [], ◌∷◌, length, map, get_or, refl, sym, ◌∙◌, subst, arith, le-ltb, slice_index, Program, ThreadDef, thread_def, no_thread_def, Page, Commit, place_in, committed, pages_of, thread_shape, shape_of, by_place}
+use Rattle.image_state.proofs.Common.{◌≡◌, ℕ, zero, suc, ◌*◌, ◌/◌, ◌%◌, ◌<◌, ◌≤◌, ◌&&◌, ◌++◌, Bool, true, false, List, [], ◌∷◌, length, map, get_or, refl, sym, ◌∙◌, subst, arith, le-ltb, slice_index, Program, ThreadDef, thread_def, no_thread_def, Page, Commit, place_in, committed, pages_of, thread_shape, shape_of, by_place}
 use Rattle.std.specs.Int.{bit_at}
 use Rattle.fram_words.specs.Shape.{is_valid, regions, region, has_indices, thread_regions, queue_regions}
 use Rattle.ink_layout.proofs.Regions.{at_right}

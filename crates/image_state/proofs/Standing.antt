@@ -1,5 +1,5 @@
 -- What is read off an image that isn't worn: it is in its range, and the words stand for it.
-use Rattle.image_state.proofs.Common.{◌≡◌, inl, inr, ℕ, ◌+◌, ◌<◌, ◌≤◌, List, length, get_or, replicate, ◌∙◌, arith, cases_lt, slice_index, get_or-map-range_with_len, length-replicate, Program, Memory, pages_of, thread_def, committed, by_place, IsAccepted, Model, source_of, told_source, IsImage, IsReadOff, IsWorn, ManyReadings, IsTold, HasFewSettled, each_below, Stands, AreListed, EveryImageStands}
+use Rattle.image_state.proofs.Common.{inl, inr, ℕ, ◌+◌, List, [], length, replicate, ap, ◌∙◌, arith, cases_lt, slice_index, get_or-map-range_with_len, length-replicate, Program, Memory, by_place, IsAccepted, Model, source_of, told_source, IsImage, IsReadOff, IsWorn, ManyReadings, IsTold, HasFewSettled, each_below, Stands, AreListed, EveryImageStands}
 use Rattle.ink_base.specs.declared.limits.TheConstants as limits
 use Rattle.image_state.proofs.Pages.{beyond_pages}
 use Rattle.image_state.proofs.States.{reads_off}

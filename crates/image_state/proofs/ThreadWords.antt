@@ -1,5 +1,5 @@
 -- The words of a thread's committed copy stand for the thread that they tell.
-use Rattle.image_state.proofs.Common.{◌≡◌, ◌≢◌, inl, inr, ℕ, zero, suc, ◌+◌, ◌-◌, ◌*◌, ◌^◌, ◌<◌, ◌≤◌, ◌==◌, Bool, true, false, cond, if◌then◌else◌, nat_lt, List, length, Option, Some, None, refl, sym, ap, ◌∙◌, subst, arith, eq-eqb, ne_eqb, ltb-true, cases_eq, cases_lt, cases_Bool, and_parts, slice_index, get_or_past, get_or-map-range_with_len, length-map-range_with_len, ForSome, ForNone, TaskId, Event, Origin, Program, Memory, next_word, running_of, origin_word, origin_of, due_word, due_of, origin_of-origin_word, committed, pages_of, thread_def, IsAccepted, IsOwnOrigin, flag, told_finished, told_released, HasChain, IsImage, IsBlockWord, IsChainValue, own_bits, state_number, told_event, told_thread, each_below}
+use Rattle.image_state.proofs.Common.{◌≡◌, ◌≢◌, inl, inr, ℕ, ◌+◌, ◌-◌, ◌*◌, ◌^◌, ◌<◌, ◌≤◌, Bool, if◌then◌else◌, length, Some, None, refl, sym, ap, ◌∙◌, subst, arith, eq-eqb, ne_eqb, ltb-true, cases_eq, cases_lt, cases_Bool, and_parts, slice_index, get_or_past, get_or-map-range_with_len, length-map-range_with_len, ForSome, ForNone, TaskId, Event, Origin, Program, Memory, next_word, running_of, origin_word, origin_of, due_word, due_of, origin_of-origin_word, committed, pages_of, thread_def, IsAccepted, IsOwnOrigin, flag, told_finished, told_released, HasChain, IsImage, IsBlockWord, IsChainValue, own_bits, state_number, told_event, told_thread}
 use Rattle.ink_base.specs.declared.limits.TheConstants as limits
 use Rattle.ink_base.specs.declared.event.Origin.TheVariants as origins
 use Rattle.fram_words.specs.Header as header
@@ -44,14 +44,14 @@ module _ (program : Program) (words : Memory) (accepted : IsAccepted program) (i
   pub checked : (w : ℕ) → w < 48 → IsBlockWord program words t w
   checked w lt = image.blocks t w known (omega arith)
 
-  some_event : Event
-  some_event = record { origin = origin_of (committed words t header.origin); value = committed words t header.value }
-
   no_event_told : committed words t header.next ≡ 0 → told_event words t ≡ None
   no_event_told none = ap (λ (b : Bool). if b then None else Some (record { origin = origin_of (committed words t header.origin); value = committed words t header.value })) (eq-eqb _ _ none)
 
   event_told : HasChain words t → told_event words t ≡ Some (record { origin = origin_of (committed words t header.origin); value = committed words t header.value })
   event_told chain = ap (λ (b : Bool). if b then None else Some (record { origin = origin_of (committed words t header.origin); value = committed words t header.value })) (ne_eqb _ _ chain)
+
+  pub event_is : HasChain words t → Some (record { origin = origin_of (committed words t header.origin); value = committed words t header.value }) ≡ told_event words t
+  event_is chain = sym (event_told chain)
 
   -- the origin of its event is its own, and is what its word was made of
   own_origin : HasChain words t → IsOwnOrigin program t (origin_of (committed words t header.origin)) × (committed words t header.origin ≡ origin_word (origin_of (committed words t header.origin)))
@@ -111,7 +111,6 @@ module _ (program : Program) (words : Memory) (accepted : IsAccepted program) (i
   pub state_told : (beyond : (w : ℕ) → 8 * pages_of (thread_def program t) ≤ w → committed words t w ≡ 0) (w : ℕ) → header.words ≤ w →
       committed words t w ≡ slice_index (told_thread program words t).state (w - header.words)
   state_told beyond w behind =
-      let size : ℕ = (thread_def program t).state in
       elim (cases_lt w (header.state (thread_def program t).state)) [
         | inl there ↦
             sym (get_or-map-range_with_len (state_number words t) 0 (thread_def program t).state (w - header.words) (w - header.words) 0 (omega (arith, behind, there)) (omega arith)
