@@ -6,6 +6,7 @@ mod chains;
 mod code;
 mod first;
 mod headers;
+mod laws;
 mod logs;
 mod owners;
 mod pipes;
@@ -13,3 +14,4 @@ mod queues;
 mod sources;
 
 pub use first::first_failing;
+pub use laws::images_hold;
