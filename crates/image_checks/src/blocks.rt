@@ -1,7 +1,7 @@
 //! The committed copies of the threads' blocks: the third check of an image.
 
-ghost use Rattle.std.specs.Prelude.{◌≡◌, ◌*◌, ◌<◌, ◌≤◌, ◌↔◌, IsTrue, length};
-ghost use Rattle.std.specs.Option.{ForSome, ForNone};
+ghost use Rattle.std.specs.Prelude.{IfNone, IfSome, ◌≡◌, ◌*◌, ◌<◌, ◌≤◌, ◌↔◌, IsTrue, length};
+ghost use Rattle.ink_base.specs.declared.limits.TheConstants as limits;
 ghost use Rattle.fram_words.specs.Header as header;
 ghost use Rattle.fram_words.specs.Steps.{place_of};
 ghost use Rattle.prog_check.specs.Lookup.{thread_def};
@@ -10,6 +10,7 @@ ghost use Rattle.never_cut.specs.Image.{IsBlockWord};
 ghost use Rattle.image_checks.specs.Board.{board};
 ghost use Rattle.image_checks.specs.Failing.{BlocksHold, FindsFault, IsFirstBlockFault};
 ghost use Rattle.image_checks.specs.Failing as failing;
+ghost use Rattle.image_checks.specs.kept.Headers.{IsRightBehind};
 
 use crate::headers::{header_at, is_header_word};
 use fram_words::{Header, Place};
@@ -21,8 +22,8 @@ use thread_state::place_in;
 /// The first word of a thread's committed copy that isn't right.
 pub(crate) fn failing_block_word(plan: &Plan, words: &[u64]) -> Option<Place>
     requires { length words.now ≡ words_of (shape_of plan.now.accepted) }
-    ensures none { ForNone result (BlocksHold plan.now.accepted (board plan.now.accepted words.now)) }
-    ensures first { ForSome result (λ place. IsFirstBlockFault plan.now.accepted (board plan.now.accepted words.now) (place_of place)) }
+    ensures none { IfNone result (BlocksHold plan.now.accepted (board plan.now.accepted words.now)) }
+    ensures first { IfSome result (λ place. IsFirstBlockFault plan.now.accepted (board plan.now.accepted words.now) (place_of place)) }
 {
     for t in 0..plan.program().threads.len() {
         let thread = ThreadId(t as u8);
@@ -86,17 +87,16 @@ fn is_block_word(plan: &Plan, words: &[u64], thread: ThreadId, word: u32) -> boo
 {
     match header_at(word) {
         Some(header) => is_header_word(plan, words, thread, header),
-        None => is_state_word(plan, words, thread, word),
+        None => is_behind_word(plan, words, thread, word),
     }
 }
 
-// Whether a word behind those of the header that are used is right: it is 0, or a number of the state with 32 bits.
-fn is_state_word(plan: &Plan, words: &[u64], thread: ThreadId, word: u32) -> bool
+// Whether a word, where it is behind those of the header that are used, is right: it is 0, or a number of the state with 32 bits.
+fn is_behind_word(plan: &Plan, words: &[u64], thread: ThreadId, word: u32) -> bool
     requires count { length words.now ≡ words_of (shape_of plan.now.accepted) }
     requires known { thread.0 < length plan.now.accepted.threads }
-    requires behind { header.due 8 ≤ word }
     requires within { word < 8 * pages_of (thread_def plan.now.accepted thread.0) }
-    ensures { IsTrue result ↔ IsBlockWord plan.now.accepted (board plan.now.accepted words.now) thread.0 word }
+    ensures { IsTrue result ↔ IsRightBehind plan.now.accepted (board plan.now.accepted words.now) thread.0 word }
 {
     let found = committed_word(plan, words, thread, word);
     let is_state = Header::WORDS <= word && word < Header::WORDS + state_len(plan, thread);

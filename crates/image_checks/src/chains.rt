@@ -5,7 +5,7 @@ ghost use Rattle.ink_base.specs.declared.event.Origin.{Origin};
 ghost use Rattle.fram_words.specs.Held as held;
 ghost use Rattle.ink_layout.specs.Shape.{shape_of, words_of};
 ghost use Rattle.never_cut.specs.Ranges.{IsOwnOrigin, IsTaskOf};
-ghost use Rattle.never_cut.specs.Image.{HasChain, IsChainValue, IsTakenLast};
+ghost use Rattle.never_cut.specs.Image.{HasChain, IsChainOrigin, IsChainValue, IsTakenLast};
 ghost use Rattle.image_checks.specs.Board.{board};
 ghost use Rattle.image_checks.specs.kept.Headers.{IsChainWord, IsRightNext, IsRightOrigin, IsRightValue};
 
@@ -65,10 +65,20 @@ fn is_chain_word(plan: &Plan, words: &[u64], thread: ThreadId, word: u64) -> boo
     requires known { thread.0 < length plan.now.accepted.threads }
     ensures { IsTrue result ↔ IsChainWord plan.now.accepted (board plan.now.accepted words.now) thread.0 word }
 {
+    // The program is accepted, so the numbers of its parts fit their bits.
+    let _program = plan.program();
     let origin = read_origin(word);
-    origin_word(origin) == word
-        && is_own(plan, thread, origin)
-        && is_taken_last(plan, words, thread, origin)
+    origin_word(origin) == word && is_chain_origin(plan, words, thread, origin)
+}
+
+// Whether the thread's chain may have this origin.
+fn is_chain_origin(plan: &Plan, words: &[u64], thread: ThreadId, origin: Origin) -> bool
+    requires count { length words.now ≡ words_of (shape_of plan.now.accepted) }
+    requires known { thread.0 < length plan.now.accepted.threads }
+    requires fits { held.FitsOrigin origin }
+    ensures { IsTrue result ↔ IsChainOrigin plan.now.accepted (board plan.now.accepted words.now) thread.0 origin }
+{
+    is_own(plan, thread, origin) && is_taken_last(plan, words, thread, origin)
 }
 
 // Whether an origin is one of the thread's own: of a source of it, of a pipe that it reads, or of its timer.

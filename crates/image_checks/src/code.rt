@@ -1,7 +1,6 @@
 //! Code words and commit words: the first two checks of an image.
 
-ghost use Rattle.std.specs.Prelude.{◌≡◌, ◌<◌, ◌≤◌, ◌↔◌, IsTrue, length};
-ghost use Rattle.std.specs.Option.{ForSome, ForNone};
+ghost use Rattle.std.specs.Prelude.{IfNone, IfSome, ◌≡◌, ◌<◌, ◌≤◌, ◌↔◌, IsTrue, length};
 ghost use Rattle.ink_base.specs.declared.limits.TheConstants as limits;
 ghost use Rattle.fram_words.specs.Steps.{place_of};
 ghost use Rattle.prog_check.specs.Lookup.{thread_def, task_def};
@@ -20,8 +19,8 @@ use task_isa::{Instr, encode};
 /// The first code word that isn't the program's.
 pub(crate) fn failing_code(plan: &Plan, words: &[u64]) -> Option<Place>
     requires { length words.now ≡ words_of (shape_of plan.now.accepted) }
-    ensures none { ForNone result (CodeHolds plan.now.accepted (board plan.now.accepted words.now)) }
-    ensures first { ForSome result (λ place. IsFirstCodeFault plan.now.accepted (board plan.now.accepted words.now) (place_of place)) }
+    ensures none { IfNone result (CodeHolds plan.now.accepted (board plan.now.accepted words.now)) }
+    ensures first { IfSome result (λ place. IsFirstCodeFault plan.now.accepted (board plan.now.accepted words.now) (place_of place)) }
 {
     for x in 0..plan.program().tasks.len() {
         let task = TaskId(x as u16);
@@ -60,8 +59,8 @@ fn code_of(plan: &Plan, task: TaskId) -> &[Instr]
 /// The first commit word with a bit at or above the number of its thread's pages.
 pub(crate) fn failing_commit_word(plan: &Plan, words: &[u64]) -> Option<Place>
     requires { length words.now ≡ words_of (shape_of plan.now.accepted) }
-    ensures none { ForNone result (CommitWordsHold plan.now.accepted (board plan.now.accepted words.now)) }
-    ensures first { ForSome result (λ place. IsFirstCommitFault plan.now.accepted (board plan.now.accepted words.now) (place_of place)) }
+    ensures none { IfNone result (CommitWordsHold plan.now.accepted (board plan.now.accepted words.now)) }
+    ensures first { IfSome result (λ place. IsFirstCommitFault plan.now.accepted (board plan.now.accepted words.now) (place_of place)) }
 {
     for t in 0..plan.program().threads.len() {
         let thread = ThreadId(t as u8);

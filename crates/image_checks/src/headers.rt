@@ -1,8 +1,7 @@
 //! The words of a thread's header in an image.
 
-ghost use Rattle.std.specs.Prelude.{◌≡◌, ◌<◌, ◌≤◌, ◌↔◌, IsTrue, length};
-ghost use Rattle.std.specs.Option.{ForSome, ForNone};
-ghost use Rattle.fram_words.specs.Header as header;
+ghost use Rattle.std.specs.Prelude.{IfNone, IfSome, ◌≡◌, ◌+◌, ◌<◌, ◌≤◌, ◌↔◌, IsTrue, length};
+ghost use Rattle.fram_words.specs.Header.{IsHeader, due, word_of};
 ghost use Rattle.prog_check.specs.Lookup.{thread_def};
 ghost use Rattle.ink_layout.specs.Shape.{shape_of, words_of};
 ghost use Rattle.image_checks.specs.Board.{board};
@@ -17,8 +16,8 @@ use ink_layout::Plan;
 
 /// The header word of a number; none where the header has no use for it.
 pub(crate) fn header_at(word: u32) -> Option<Header>
-    ensures some { ForSome result (λ named. header.IsHeader named × (header.word_of named ≡ word)) }
-    ensures none { ForNone result (header.due 8 ≤ word) }
+    ensures some { IfSome result (λ named. IsHeader named × (word_of named ≡ word)) }
+    ensures none { IfNone result (due 8 ≤ word) }
 {
     match word {
         0 => Some(Header::Stamp),
@@ -41,7 +40,7 @@ pub(crate) fn header_at(word: u32) -> Option<Header>
 // The word of a timer, as they follow each other: of each timer its due word, and then its period.
 fn timer_word(number: u32) -> Header
     requires { number < 16 }
-    ensures { header.IsHeader result × (header.word_of result ≡ header.due 0 + number) }
+    ensures { IsHeader result × (word_of result ≡ due 0 + number) }
 {
     let timer = number / 2;
     if number % 2 == 0 {
@@ -55,7 +54,7 @@ fn timer_word(number: u32) -> Header
 pub(crate) fn is_header_word(plan: &Plan, words: &[u64], thread: ThreadId, header: Header) -> bool
     requires count { length words.now ≡ words_of (shape_of plan.now.accepted) }
     requires known { thread.0 < length plan.now.accepted.threads }
-    requires header { header.IsHeader header }
+    requires header { IsHeader header }
     ensures { IsTrue result ↔ IsRightHeader plan.now.accepted (board plan.now.accepted words.now) thread.0 header }
 {
     let word = header_word(plan, words, thread, header);

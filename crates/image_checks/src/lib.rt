@@ -4,14 +4,14 @@
 mod blocks;
 mod chains;
 mod code;
+mod first;
 mod headers;
+mod laws;
 mod logs;
 mod owners;
 mod pipes;
+mod queues;
+mod sources;
 
-
-#[cfg(test)]
-mod tests {
-    #[test]
-    fn nothing() {}
-}
+pub use first::first_failing;
+pub use laws::images_hold;

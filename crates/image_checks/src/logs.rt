@@ -1,7 +1,6 @@
 //! The logs of outputs: the fifth check of an image.
 
-ghost use Rattle.std.specs.Prelude.{◌≡◌, ◌<◌, ◌≤◌, length};
-ghost use Rattle.std.specs.Option.{ForSome, ForNone};
+ghost use Rattle.std.specs.Prelude.{IfNone, IfSome, ◌≡◌, ◌<◌, ◌≤◌, length};
 ghost use Rattle.fram_words.specs.Header as header;
 ghost use Rattle.fram_words.specs.Steps.{place_of};
 ghost use Rattle.thread_state.specs.Pages.{committed};
@@ -21,8 +20,8 @@ use ink_layout::Plan;
 pub(crate) fn failing_log_word(plan: &Plan, words: &[u64]) -> Option<Place>
     requires count { length words.now ≡ words_of (shape_of plan.now.accepted) }
     requires blocks { BlocksHold plan.now.accepted (board plan.now.accepted words.now) }
-    ensures none { ForNone result (LogsHold plan.now.accepted (board plan.now.accepted words.now)) }
-    ensures first { ForSome result (λ place. IsFirstLogFault plan.now.accepted (board plan.now.accepted words.now) (place_of place)) }
+    ensures none { IfNone result (LogsHold plan.now.accepted (board plan.now.accepted words.now)) }
+    ensures first { IfSome result (λ place. IsFirstLogFault plan.now.accepted (board plan.now.accepted words.now) (place_of place)) }
 {
     for t in 0..plan.program().threads.len() {
         let thread = ThreadId(t as u8);

@@ -1,6 +1,7 @@
 //! Which parts of a program are a thread's own.
 
 ghost use Rattle.std.specs.Prelude.{◌≡◌, ◌<◌, ◌↔◌, IsTrue, length};
+ghost use Rattle.prog_check.specs.Lookup.{source_thread};
 ghost use Rattle.never_cut.specs.Stands as parts;
 
 use ink_base::{SourceId, ThreadId};

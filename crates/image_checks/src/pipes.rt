@@ -1,14 +1,15 @@
 //! Pipes: the fourth check of an image.
 
-ghost use Rattle.std.specs.Prelude.{◌≡◌, ◌<◌, ◌^◌, ◌≤◌, ◌%◌, ◌↔◌, IsTrue, length};
-ghost use Rattle.std.specs.Option.{ForSome, ForNone};
+ghost use Rattle.std.specs.Prelude.{IfNone, IfSome, ◌≡◌, ◌<◌, ◌^◌, ◌≤◌, ◌%◌, ◌↔◌, IsTrue, length};
+ghost use Rattle.fram_words.specs.Header as header;
 ghost use Rattle.fram_words.specs.Places.{Ring};
 ghost use Rattle.fram_words.specs.Steps.{place_of};
 ghost use Rattle.prog_check.specs.Lookup.{pipe_def};
-ghost use Rattle.ink_layout.specs.Shape.{shape_of, words_of};
+ghost use Rattle.ink_layout.specs.Shape.{IsOnBoard, shape_of, words_of};
 ghost use Rattle.never_cut.specs.Image.{IsItemWord, IsPipeCount, IsPipeRight, written_of};
 ghost use Rattle.image_checks.specs.Board.{board};
 ghost use Rattle.image_checks.specs.Failing.{FindsFault, IsFirstPipeFault, IsPipeFault, PipesHold};
+ghost use Rattle.image_checks.specs.Failing as failing;
 
 use crate::blocks::block_place;
 use fram_words::{Header, Place};
@@ -19,8 +20,8 @@ use ink_layout::Plan;
 /// The first place at which a pipe fails.
 pub(crate) fn failing_pipe(plan: &Plan, words: &[u64]) -> Option<Place>
     requires { length words.now ≡ words_of (shape_of plan.now.accepted) }
-    ensures none { ForNone result (PipesHold plan.now.accepted (board plan.now.accepted words.now)) }
-    ensures first { ForSome result (λ place. IsFirstPipeFault plan.now.accepted (board plan.now.accepted words.now) (place_of place)) }
+    ensures none { IfNone result (PipesHold plan.now.accepted (board plan.now.accepted words.now)) }
+    ensures first { IfSome result (λ place. IsFirstPipeFault plan.now.accepted (board plan.now.accepted words.now) (place_of place)) }
 {
     for q in 0..plan.program().pipes.len() {
         if let Some(place) = failing_in(plan, words, PipeId(q as u8)) {
@@ -34,8 +35,8 @@ pub(crate) fn failing_pipe(plan: &Plan, words: &[u64]) -> Option<Place>
 fn failing_in(plan: &Plan, words: &[u64], pipe: PipeId) -> Option<Place>
     requires count { length words.now ≡ words_of (shape_of plan.now.accepted) }
     requires known { pipe.0 < length plan.now.accepted.pipes }
-    ensures none { ForNone result (IsPipeRight plan.now.accepted (board plan.now.accepted words.now) pipe.0) }
-    ensures fault { ForSome result (λ place. IsPipeFault plan.now.accepted (board plan.now.accepted words.now) pipe.0 (place_of place)) }
+    ensures none { IfNone result (IsPipeRight plan.now.accepted (board plan.now.accepted words.now) pipe.0) }
+    ensures fault { IfSome result (λ place. IsPipeFault plan.now.accepted (board plan.now.accepted words.now) pipe.0 (place_of place)) }
 {
     if !has_right_counts(plan, words, pipe) {
         return Some(written_place(plan, words, pipe));

@@ -1,20 +1,20 @@
 //! The queues of threads: the sixth check of an image.
 
-ghost use Rattle.std.specs.Prelude.{◌≡◌, ◌<◌, ◌↔◌, IsTrue, length};
-ghost use Rattle.std.specs.Option.{ForSome, ForNone};
+ghost use Rattle.std.specs.Prelude.{◌≡◌, ◌<◌, ◌↔◌, IfSome, IfNone, IsTrue, length};
 ghost use Rattle.fram_words.specs.Steps.{place_of};
 ghost use Rattle.fram_words.specs.Header.{word_of, IsHeader};
 ghost use Rattle.ink_layout.specs.Shape.{IsOnBoard, shape_of, words_of};
 ghost use Rattle.never_cut.specs.Image.{IsQueueRight, IsTailWord, IsOnlyFinished, IsIdleFinished, IsFirstServed};
-ghost use Rattle.image_checks.specs.Failing.{QueuesHold, IsFirstQueueFault, block_place};
+ghost use Rattle.image_checks.specs.Failing.{AreSlots, QueuesHold, IsFirstQueueFault, IsQueueFault, block_place};
 ghost use Rattle.image_checks.specs.Board.{board};
-ghost use Rattle.image_checks.specs.kept.Queues.{IsQueueFault, IsFree, FindsSlot};
+ghost use Rattle.image_checks.specs.kept.Queues.{IsFree, FindsSlot, AreUnfinishedBefore, ServesFirst, IsEventOf};
 
 use fram_words::{Header, Place, read_origin};
 use image_told::{
-    held_count, held_event, header_word, is_finished, published, released, slot_of, word_at,
+    header_word, held_count, held_event, is_finished, places, published, released, slot_of,
+    slot_place, word_at,
 };
-use ink_base::{Origin, ThreadId};
+use ink_base::{Event, Origin, ThreadId};
 use ink_layout::Plan;
 use push_core::Slot;
 use thread_state::header_in;
@@ -22,9 +22,9 @@ use thread_state::header_in;
 /// The first place at which a thread's queue fails, of the first thread that has one.
 pub(crate) fn failing_queue(plan: &Plan, words: &[u64]) -> Option<Place>
     requires { length words.now ≡ words_of (shape_of plan.now.accepted) }
-    ensures none { ForNone result (QueuesHold plan.now.accepted (board plan.now.accepted words.now)) }
-    ensures first { ForSome result (λ place. IsFirstQueueFault plan.now.accepted (board plan.now.accepted words.now) (place_of place)) }
-    ensures there { ForSome result (λ place. IsOnBoard plan.now.accepted (place_of place)) }
+    ensures none { IfNone result (QueuesHold plan.now.accepted (board plan.now.accepted words.now)) }
+    ensures first { IfSome result (λ place. IsFirstQueueFault plan.now.accepted (board plan.now.accepted words.now) (place_of place)) }
+    ensures there { IfSome result (λ place. IsOnBoard plan.now.accepted (place_of place)) }
 {
     for t in 0..plan.program().threads.len() {
         if let Some(place) = queue_fault(plan, words, ThreadId(t as u8)) {
@@ -34,17 +34,29 @@ pub(crate) fn failing_queue(plan: &Plan, words: &[u64]) -> Option<Place>
     None
 }
 
-// The first place at which the queue of a thread fails.
+// The place at which the queue of a thread fails.
 fn queue_fault(plan: &Plan, words: &[u64], thread: ThreadId) -> Option<Place>
     requires count { length words.now ≡ words_of (shape_of plan.now.accepted) }
     requires known { thread.0 < length plan.now.accepted.threads }
-    ensures none { ForNone result (IsQueueRight plan.now.accepted (board plan.now.accepted words.now) thread.0) }
-    ensures first { ForSome result (λ place. IsQueueFault plan.now.accepted (board plan.now.accepted words.now) thread.0 (place_of place)) }
-    ensures there { ForSome result (λ place. IsOnBoard plan.now.accepted (place_of place)) }
+    ensures none { IfNone result (IsQueueRight plan.now.accepted (board plan.now.accepted words.now) thread.0) }
+    ensures fault { IfSome result (λ place. IsQueueFault plan.now.accepted (board plan.now.accepted words.now) thread.0 (place_of place)) }
+    ensures there { IfSome result (λ place. IsOnBoard plan.now.accepted (place_of place)) }
 {
-    if let Some(position) = failing_slot(plan, words, thread) {
-        return Some(slot_place(plan, thread, position));
+    match failing_slot(plan, words, thread) {
+        Some(position) => Some(slot_place(plan, thread, position)),
+        None => fault_behind_slots(plan, words, thread),
     }
+}
+
+// The place at which it fails, where its slots are right.
+fn fault_behind_slots(plan: &Plan, words: &[u64], thread: ThreadId) -> Option<Place>
+    requires count { length words.now ≡ words_of (shape_of plan.now.accepted) }
+    requires known { thread.0 < length plan.now.accepted.threads }
+    requires slots { AreSlots plan.now.accepted (board plan.now.accepted words.now) thread.0 }
+    ensures none { IfNone result (IsQueueRight plan.now.accepted (board plan.now.accepted words.now) thread.0) }
+    ensures fault { IfSome result (λ place. IsQueueFault plan.now.accepted (board plan.now.accepted words.now) thread.0 (place_of place)) }
+    ensures there { IfSome result (λ place. IsOnBoard plan.now.accepted (place_of place)) }
+{
     if !is_tail_right(plan, words, thread) {
         return Some(Place::Tail { thread });
     }
@@ -66,7 +78,7 @@ fn failing_slot(plan: &Plan, words: &[u64], thread: ThreadId) -> Option<u64>
     requires known { thread.0 < length plan.now.accepted.threads }
     ensures { FindsSlot plan.now.accepted (board plan.now.accepted words.now) thread.0 result }
 {
-    let places = plan.program().threads.as_slice()[thread.0 as usize].queue;
+    let places = places(plan, thread);
     let first = released(plan, words, thread);
     for k in held_count(plan, words, thread)..places as u32 {
         let position = first + k as u64;
@@ -167,16 +179,6 @@ fn is_event(found: Option<Event>, origin: Origin, value: u64) -> bool
     }
 }
 
-// The slot of a position in a thread's queue.
-pub(crate) fn slot_place(plan: &Plan, thread: ThreadId, position: u64) -> Place
-    requires { thread.0 < length plan.now.accepted.threads }
-    ensures place { place_of result ≡ slots.slot_place plan.now.accepted thread.0 position }
-    ensures there { IsOnBoard plan.now.accepted (place_of result) }
-{
-    let places = plan.program().threads.as_slice()[thread.0 as usize].queue;
-    Place::Slot { thread, index: (position % places as u64) as u32 }
-}
-
 // A word of a thread's header, in the committed copy.
 fn header_place(plan: &Plan, words: &[u64], thread: ThreadId, header: Header) -> Place
     requires count { length words.now ≡ words_of (shape_of plan.now.accepted) }
@@ -185,5 +187,9 @@ fn header_place(plan: &Plan, words: &[u64], thread: ThreadId, header: Header) ->
     ensures place { place_of result ≡ block_place (board plan.now.accepted words.now) thread.0 (word_of header) }
     ensures there { IsOnBoard plan.now.accepted (place_of result) }
 {
-    header_in(thread, word_at(plan, words, Place::Commit { thread }), header)
+    header_in(
+        thread,
+        word_at(plan, words, Place::Commit { thread }),
+        header,
+    )
 }

@@ -1,31 +1,31 @@
 //! The sources: the seventh check of an image.
 
-ghost use Rattle.std.specs.Prelude.{◌≡◌, ◌<◌, ◌↔◌, IsTrue, length};
-ghost use Rattle.std.specs.Option.{ForSome, ForNone};
+ghost use Rattle.std.specs.Prelude.{◌≡◌, ◌+◌, ◌^◌, ◌<◌, ◌↔◌, IfSome, IfNone, IsTrue, length};
 ghost use Rattle.fram_words.specs.Steps.{place_of};
 ghost use Rattle.prog_check.specs.Lookup.{source_thread};
 ghost use Rattle.push_core.specs.Queue.{IsFinishing};
+ghost use Rattle.ink_layout.specs.Slots.{slot_place as slot_at};
 ghost use Rattle.ink_layout.specs.Shape.{IsOnBoard, shape_of, words_of};
 ghost use Rattle.never_cut.specs.Image.{IsSourceRight, IsSrcWord, IsCountWord, IsAckWord, held_for};
-ghost use Rattle.never_cut.specs.ReadOff.{told_queue};
-ghost use Rattle.image_checks.specs.Failing.{SourcesHold, FindsFault, IsFirstSourceFault};
+ghost use Rattle.never_cut.specs.ReadOff.{told_queue, told_released};
+ghost use Rattle.image_checks.specs.Failing.{SourcesHold, FindsFault, IsFirstSourceFault, IsSourceFault};
 ghost use Rattle.image_checks.specs.Board.{board};
-ghost use Rattle.image_checks.specs.kept.Sources.{IsSourceFault};
+ghost use Rattle.image_checks.specs.kept.Sources.{HasCount, HasOrigin};
 
-use crate::queues::slot_place;
 use fram_words::{Place, read_src};
 use image_told::{
-    held_count, held_event, is_finished, own_before, own_events, released, told_source, word_at,
+    fed, held_at, held_count, held_event, is_finished, own_before, own_events, released,
+    slot_place, told_source, word_at,
 };
-use ink_base::{Event, Origin, SourceId, ThreadId};
+use ink_base::{Event, Origin, SourceId};
 use ink_layout::Plan;
 
 /// The first place at which a source fails, of the first source that has one.
 pub(crate) fn failing_source(plan: &Plan, words: &[u64]) -> Option<Place>
     requires { length words.now ≡ words_of (shape_of plan.now.accepted) }
-    ensures none { ForNone result (SourcesHold plan.now.accepted (board plan.now.accepted words.now)) }
-    ensures first { ForSome result (λ place. IsFirstSourceFault plan.now.accepted (board plan.now.accepted words.now) (place_of place)) }
-    ensures there { ForSome result (λ place. IsOnBoard plan.now.accepted (place_of place)) }
+    ensures none { IfNone result (SourcesHold plan.now.accepted (board plan.now.accepted words.now)) }
+    ensures first { IfSome result (λ place. IsFirstSourceFault plan.now.accepted (board plan.now.accepted words.now) (place_of place)) }
+    ensures there { IfSome result (λ place. IsOnBoard plan.now.accepted (place_of place)) }
 {
     for i in 0..plan.program().sources.len() {
         if let Some(place) = source_fault(plan, words, SourceId(i as u8)) {
@@ -35,24 +35,40 @@ pub(crate) fn failing_source(plan: &Plan, words: &[u64]) -> Option<Place>
     None
 }
 
-// The first place at which a source fails.
+// The place at which a source fails.
 fn source_fault(plan: &Plan, words: &[u64], source: SourceId) -> Option<Place>
     requires count { length words.now ≡ words_of (shape_of plan.now.accepted) }
     requires known { source.0 < length plan.now.accepted.sources }
-    ensures none { ForNone result (IsSourceRight plan.now.accepted (board plan.now.accepted words.now) source.0) }
-    ensures first { ForSome result (λ place. IsSourceFault plan.now.accepted (board plan.now.accepted words.now) source.0 (place_of place)) }
-    ensures there { ForSome result (λ place. IsOnBoard plan.now.accepted (place_of place)) }
+    ensures none { IfNone result (IsSourceRight plan.now.accepted (board plan.now.accepted words.now) source.0) }
+    ensures fault { IfSome result (λ place. IsSourceFault plan.now.accepted (board plan.now.accepted words.now) source.0 (place_of place)) }
+    ensures there { IfSome result (λ place. IsOnBoard plan.now.accepted (place_of place)) }
 {
-    if !is_src_right(plan, words, source) {
-        return Some(Place::Src { source });
+    if is_src_right(plan, words, source) {
+        fault_behind_src(plan, words, source)
+    } else {
+        Some(Place::Src { source })
     }
-    if let Some(j) = failing_count(plan, words, source) {
-        return Some(held_place(plan, words, fed(plan, source), j));
+}
+
+// The place at which it fails, where its SRC is right.
+fn fault_behind_src(plan: &Plan, words: &[u64], source: SourceId) -> Option<Place>
+    requires count { length words.now ≡ words_of (shape_of plan.now.accepted) }
+    requires known { source.0 < length plan.now.accepted.sources }
+    requires src { IsSrcWord (board plan.now.accepted words.now) source.0 }
+    ensures none { IfNone result (IsSourceRight plan.now.accepted (board plan.now.accepted words.now) source.0) }
+    ensures fault { IfSome result (λ place. IsSourceFault plan.now.accepted (board plan.now.accepted words.now) source.0 (place_of place)) }
+    ensures there { IfSome result (λ place. IsOnBoard plan.now.accepted (place_of place)) }
+{
+    match failing_count(plan, words, source) {
+        Some(j) => Some(held_place(plan, words, source, j)),
+        None => {
+            if is_ack_right(plan, words, source) {
+                None
+            } else {
+                Some(Place::Ack { source })
+            }
+        }
     }
-    if !is_ack_right(plan, words, source) {
-        return Some(Place::Ack { source });
-    }
-    None
 }
 
 // No more readings are accepted than settled.
@@ -90,15 +106,18 @@ fn is_count_right(plan: &Plan, words: &[u64], source: SourceId, j: u32) -> bool
     let accepted = told_source(plan, words, source).accepted;
     let own = own_events(plan, words, source) as u64;
     let before = own_before(plan, words, source, j) as u64;
-    match held_event(plan, words, fed(plan, source), j) {
-        Some(event) => has_count(source, event, accepted, own, before),
-        None => true,
-    }
+    has_count(
+        source,
+        held_at(plan, words, fed(plan, source), j),
+        accepted,
+        own,
+        before,
+    )
 }
 
 // Whether an event isn't of the source, or is its event behind so many of those that it holds, of so many accepted ones.
 fn has_count(source: SourceId, event: Event, accepted: u64, own: u64, before: u64) -> bool
-    requires { before ≤ own }
+    requires { accepted + before < 2 ^ 64 }
     ensures { IsTrue result ↔ HasCount source.0 event accepted own before }
 {
     match event.origin {
@@ -117,7 +136,9 @@ fn is_ack_right(plan: &Plan, words: &[u64], source: SourceId) -> bool
 {
     let ack = word_at(plan, words, Place::Ack { source });
     let own = own_events(plan, words, source) as u64;
-    let gone = told_source(plan, words, source).accepted.saturating_sub(own);
+    let gone = told_source(plan, words, source)
+        .accepted
+        .saturating_sub(own);
     let count = (gone % 64) as u8;
     ack == count as u64 || (ack == (gone + 1) % 64 && is_finishing(plan, words, source, count))
 }
@@ -144,23 +165,16 @@ fn has_origin(found: Option<Event>, origin: Origin) -> bool
     }
 }
 
-// The thread that a source feeds.
-fn fed(plan: &Plan, source: SourceId) -> ThreadId
-    requires { source.0 < length plan.now.accepted.sources }
-    ensures thread { result.0 ≡ source_thread plan.now.accepted source.0 }
-    ensures known { result.0 < length plan.now.accepted.threads }
-{
-    plan.program().sources.as_slice()[source.0 as usize]
-}
-
-// The slot of a held event.
-fn held_place(plan: &Plan, words: &[u64], thread: ThreadId, j: u32) -> Place
+// The slot of a held event of the source's queue.
+fn held_place(plan: &Plan, words: &[u64], source: SourceId, j: u32) -> Place
     requires count { length words.now ≡ words_of (shape_of plan.now.accepted) }
-    requires known { thread.0 < length plan.now.accepted.threads }
-    requires held { j < length (told_held plan.now.accepted (board plan.now.accepted words.now) thread.0) }
-    ensures place { let memory = board plan.now.accepted words.now in
-        place_of result ≡ slots.slot_place plan.now.accepted thread.0 (told_released plan.now.accepted memory thread.0 + j) }
+    requires known { source.0 < length plan.now.accepted.sources }
+    requires held { j < length (held_for plan.now.accepted (board plan.now.accepted words.now) source.0) }
+    ensures place { let thread = source_thread plan.now.accepted source.0 in
+        place_of result ≡ slot_at plan.now.accepted thread (told_released plan.now.accepted (board plan.now.accepted words.now) thread + j) }
     ensures there { IsOnBoard plan.now.accepted (place_of result) }
 {
-    slot_place(plan, thread, released(plan, words, thread) + j as u64)
+    let thread = fed(plan, source);
+    let first = released(plan, words, thread);
+    slot_place(plan, thread, first + j as u64)
 }

@@ -1,5 +1,5 @@
 -- The check of blocks at the words of the header, each by what it holds.
-use Rattle.std.specs.Prelude.{◌≡◌, ◌-◌, ◌^◌, ◌<◌, ◌≤◌, ℕ, false}
+use Rattle.std.specs.Prelude.{◌≡◌, ◌-◌, ◌^◌, ◌<◌, ◌≤◌, ◌⊎◌, ℕ, false}
 use Rattle.task_isa.specs.declared.program.Program.{Program}
 use Rattle.fram_words.specs.Places.{Memory, Clock}
 use Rattle.fram_words.specs.Header as header
@@ -47,3 +47,8 @@ IsRightHeader program words t headers.Finished = Unit {0}
 IsRightHeader program words t headers.Served = Unit {0}
 IsRightHeader program words t headers.Trapped = Unit {0}
 IsRightHeader program words t headers.Expired = Unit {0}
+
+-- a word behind the header's that are used is 0, or a number of the state, which has 32 bits
+abbrev pub IsRightBehind : Program → Memory → (t w : ℕ) → Type 0
+IsRightBehind program words t w =
+    (committed words t w ≡ 0) ⊎ ((header.words ≤ w) × (w < header.state (thread_def program t).state) × (committed words t w < 2 ^ 32))

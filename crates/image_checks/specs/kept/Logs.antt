@@ -42,3 +42,13 @@ pub record IsPast (words : Memory) (t from count stamp end : ℕ) : Type 0 where
   pub within : end ≤ count
   pub lower : (k : ℕ) → from ≤ k → k < end → stamp_at words t k < stamp
   pub stops : end < count → stamp ≤ stamp_at words t end
+
+-- the least stamp that an output may have: 1 for the first one, and that of the one before it for another
+pub record IsLeast (words : Memory) (t n least : ℕ) : Type 0 where
+  pub first : 1 ≤ least
+  pub only : n ≡ 0 → least ≡ 1
+  pub before : (k : ℕ) → k + 1 ≡ n → stamp_at words t k ≡ least
+
+-- the first outputs of one thread have lower stamps than those of another from one to an end
+abbrev pub AreLower : Memory → (u from t n end : ℕ) → Type 0
+AreLower words u from t n end = (k m : ℕ) → k < from → n ≤ m → m < end → stamp_at words u k < stamp_at words t m

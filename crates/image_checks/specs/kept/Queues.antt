@@ -1,17 +1,17 @@
--- The first place at which one thread's queue fails, and what its parts are asked.
+-- What the parts of a queue are asked.
 use Rattle.std.specs.Prelude.{◌≡◌, ℕ, ◌+◌, ◌%◌, ◌^◌, ◌<◌, false, Option, Some, None}
 use Rattle.ink_base.specs.declared.event.Event.{Event}
 use Rattle.ink_base.specs.declared.event.Origin.{Origin}
 use Rattle.task_isa.specs.declared.program.Program.{Program}
-use Rattle.fram_words.specs.Places.{Place, Memory, Tail, Slot}
+use Rattle.fram_words.specs.Places.{Memory, Slot}
 use Rattle.fram_words.specs.Header as header
 use Rattle.fram_words.specs.Held.{origin_of}
 use Rattle.thread_state.specs.Pages.{committed}
 use Rattle.push_core.specs.Slots.{empty_word}
 use Rattle.prog_check.specs.Lookup.{thread_def}
-use Rattle.never_cut.specs.Image.{IsSlotWord, IsTailWord, IsOnlyFinished, IsIdleFinished, IsFirstServed, IsServedFirst}
+use Rattle.never_cut.specs.Image.{IsSlotWord, IsServedFirst}
 use Rattle.never_cut.specs.ReadOff.{told_finished, told_held, told_released}
-use Rattle.image_checks.specs.Failing.{IsFirstFault, AreSlots, block_place}
+use Rattle.image_checks.specs.Failing.{IsFirstFault, AreSlots}
 
 -- the slot of a position has the empty word of the position, which fits its bits
 pub record IsFree (program : Program) (words : Memory) (t position : ℕ) : Type 0 where
@@ -42,16 +42,3 @@ ServesFirst program words t =
 abbrev pub IsEventOf : Origin → (value : ℕ) → Option Event → Type 0
 IsEventOf origin value None = ⊥
 IsEventOf origin value (Some e) = e ≡ record { origin = origin; value = value }
-
--- the first place at which the queue of a thread fails: the slot of the first position; or else its tail, its number of finished events, the next task,
--- the origin of its event
-pub data IsQueueFault (program : Program) (words : Memory) (t : ℕ) : Place → Type 0 where
-  AtSlot : (k : ℕ) → IsFirstFault (IsSlotWord program words t) (thread_def program t).queue k →
-      IsQueueFault program words t (Slot t ((told_released program words t + k) % (thread_def program t).queue))
-  AtTail : AreSlots program words t → ¬ IsTailWord program words t → IsQueueFault program words t (Tail t)
-  AtFinished : AreSlots program words t → IsTailWord program words t → ¬ IsOnlyFinished program words t →
-      IsQueueFault program words t (block_place words t header.finished)
-  AtNext : AreSlots program words t → IsTailWord program words t → IsOnlyFinished program words t → ¬ IsIdleFinished program words t →
-      IsQueueFault program words t (block_place words t header.next)
-  AtOrigin : AreSlots program words t → IsTailWord program words t → IsOnlyFinished program words t → IsIdleFinished program words t →
-      ¬ IsFirstServed program words t → IsQueueFault program words t (block_place words t header.origin)
