@@ -1,14 +1,14 @@
 -- The seven checks together: they make an image, an image passes them, and the place at which one of them fails is on the board.
 use Rattle.std.proofs.Common.{ℕ, ◌+◌, ◌*◌, ◌/◌, ◌%◌, ◌<◌, ◌≤◌, length, arith}
 use Rattle.task_isa.specs.declared.program.Program.{Program}
-use Rattle.fram_words.specs.Places.{Place, Memory, Commit}
+use Rattle.fram_words.specs.Places.{Place, Memory, Slot}
 use Rattle.fram_words.specs.Header as header
-use Rattle.thread_state.specs.Pages.{committed}
 use Rattle.prog_check.specs.Accepted.{IsAccepted}
-use Rattle.prog_check.specs.Lookup.{thread_def, pipe_def}
+use Rattle.prog_check.specs.Lookup.{thread_def, pipe_def, source_thread}
 use Rattle.ink_layout.specs.Shape.{IsOnBoard, pages_of}
 use Rattle.never_cut.specs.Image.{IsImage}
-use Rattle.image_checks.specs.Failing.{HoldsBelow, IsFirstIn, block_place, CodeHolds, CommitWordsHold, BlocksHold, PipesHold, LogsHold, QueuesHold, SourcesHold, IsCodeFault, IsCommitFault, IsBlockFault, IsPipeFault, IsLogFault, IsQueueFault, IsSourceFault, IsFirstFailing, CodeFails, CommitFails, BlockFails, CountFails, ItemFails, LogFails, SlotFails, TailFails, OnlyFinishedFails, IdleFinishedFails, FirstServedFails, SrcFails, EventFails, AckFails, InCode, InCommitWords, InBlocks, InPipes, InLogs, InQueues, InSources, IsFirstCodeFault, IsFirstCommitFault, IsFirstBlockFault, IsFirstPipeFault, IsFirstLogFault}
+use Rattle.never_cut.specs.ReadOff.{told_released}
+use Rattle.image_checks.specs.Failing.{block_place, CodeHolds, CommitWordsHold, BlocksHold, PipesHold, LogsHold, QueuesHold, SourcesHold, IsCodeFault, IsCommitFault, IsBlockFault, IsPipeFault, IsLogFault, IsQueueFault, IsSourceFault, IsFirstFailing, CodeFails, CommitFails, BlockFails, CountFails, ItemFails, LogFails, SlotFails, TailFails, OnlyFinishedFails, IdleFinishedFails, FirstServedFails, SrcFails, EventFails, AckFails, InCode, InCommitWords, InBlocks, InPipes, InLogs, InQueues, InSources}
 use Rattle.image_checks.proofs.LogWords.{outputs_fit}
 
 module _ (program : Program) (words : Memory) where
@@ -29,14 +29,8 @@ module _ (program : Program) (words : Memory) where
   code_on : (x : ℕ) {p : Place} → x < length program.tasks → IsCodeFault program words x p → IsOnBoard program p
   code_on x lt (CodeFails n first) = (lt, first.inside)
 
-  pub code_there : (p : Place) → IsFirstCodeFault program words p → IsOnBoard program p
-  code_there p first = code_on first.part first.inside first.fault
-
   commit_on : (t : ℕ) {p : Place} → t < length program.threads → IsCommitFault program words t p → IsOnBoard program p
   commit_on t lt (CommitFails fails) = lt
-
-  pub commit_there : (p : Place) → IsFirstCommitFault program words p → IsOnBoard program p
-  commit_there p first = commit_on first.part first.inside first.fault
 
   -- a word of a block is on the board
   word_on : (t w : ℕ) → t < length program.threads → w < 8 * pages_of (thread_def program t) → IsOnBoard program (block_place words t w)
@@ -45,22 +39,39 @@ module _ (program : Program) (words : Memory) where
   block_on : (t : ℕ) {p : Place} → t < length program.threads → IsBlockFault program words t p → IsOnBoard program p
   block_on t lt (BlockFails w first) = word_on t w lt first.inside
 
-  pub block_there : (p : Place) → IsFirstBlockFault program words p → IsOnBoard program p
-  block_there p first = block_on first.part first.inside first.fault
-
   pipe_on : (q : ℕ) {p : Place} → IsAccepted program → q < length program.pipes → IsPipeFault program words q p → IsOnBoard program p
   pipe_on q accepted lt (CountFails fails) =
       let few = accepted.counts.pipes in word_on (pipe_def program q).writer.0 (header.written q) (accepted.pipes q lt).writer (omega arith)
   pipe_on q accepted lt (ItemFails n counts first) = let some = (accepted.pipes q lt).places_least in (lt, omega arith)
 
-  pub pipe_there : (p : Place) → IsAccepted program → IsFirstPipeFault program words p → IsOnBoard program p
-  pipe_there p accepted first = pipe_on first.part accepted first.inside first.fault
-
   log_on : (t : ℕ) {p : Place} → BlocksHold program words → t < length program.threads → IsLogFault program words t p → IsOnBoard program p
   log_on t blocks lt (LogFails n first) = let fits = outputs_fit program words blocks t lt in let before = first.inside in (lt, omega arith)
 
-  pub log_there : (p : Place) → BlocksHold program words → IsFirstLogFault program words p → IsOnBoard program p
-  log_there p blocks first = log_on first.part blocks first.inside first.fault
+  slot_on : (t n : ℕ) → IsAccepted program → t < length program.threads → IsOnBoard program (Slot t (n % (thread_def program t).queue))
+  slot_on t n accepted lt = let some = (accepted.threads t lt).queue_least in (lt, omega arith)
+
+  queue_on : (t : ℕ) {p : Place} → IsAccepted program → t < length program.threads → IsQueueFault program words t p → IsOnBoard program p
+  queue_on t accepted lt (SlotFails k first) = slot_on t (told_released program words t + k) accepted lt
+  queue_on t accepted lt (TailFails slots fails) = lt
+  queue_on t accepted lt (OnlyFinishedFails slots tail fails) = word_on t header.finished lt (omega arith)
+  queue_on t accepted lt (IdleFinishedFails slots tail only fails) = word_on t header.next lt (omega arith)
+  queue_on t accepted lt (FirstServedFails slots tail only idle fails) = word_on t header.origin lt (omega arith)
+
+  source_on : (i : ℕ) {p : Place} → IsAccepted program → i < length program.sources → IsSourceFault program words i p → IsOnBoard program p
+  source_on i accepted lt (SrcFails fails) = lt
+  source_on i accepted lt (EventFails j src first) =
+      slot_on (source_thread program i) (told_released program words (source_thread program i) + j) accepted (accepted.sources i lt)
+  source_on i accepted lt (AckFails src counts fails) = lt
+
+  -- the first place at which words fail is on the board
+  pub failing_there : (p : Place) → IsAccepted program → IsFirstFailing program words p → IsOnBoard program p
+  failing_there p accepted (InCode f) = code_on f.part f.inside f.fault
+  failing_there p accepted (InCommitWords a f) = commit_on f.part f.inside f.fault
+  failing_there p accepted (InBlocks a b f) = block_on f.part f.inside f.fault
+  failing_there p accepted (InPipes a b c f) = pipe_on f.part accepted f.inside f.fault
+  failing_there p accepted (InLogs a b c d f) = log_on f.part c f.inside f.fault
+  failing_there p accepted (InQueues a b c d e f) = queue_on f.part accepted f.inside f.fault
+  failing_there p accepted (InSources a b c d e g f) = source_on f.part accepted f.inside f.fault
 
 module _ (program : Program) (words : Memory) (image : IsImage program words) where
   no_code : (x : ℕ) {p : Place} → x < length program.tasks → IsCodeFault program words x p → ⊥
