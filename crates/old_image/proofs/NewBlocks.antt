@@ -3,6 +3,7 @@ use Rattle.old_image.proofs.Common.{◌≡◌, ◌≢◌, inl, inr, ℕ, ◌+◌
 use Rattle.ink_base.specs.declared.event.Origin.TheVariants as origins
 use Rattle.fram_words.specs.Header as header
 use Rattle.never_cut.specs.Ranges.{IsTaskOf}
+use Rattle.old_image.proofs.Checks.{block_at_origin}
 use Rattle.old_image.proofs.OldQueues.{IsOldReadAt, held_read}
 
 -- the number of a word by its place on a page
@@ -153,29 +154,10 @@ module _ (program : Program) (old new : Memory) (renewed : IsRenewed program old
         rest = λ from. committed_same t w ne ∙ h.rest from;
       }
 
-      -- at the origin nothing else is asked
-      at_origin : IsBlockWord program new t header.origin
-      at_origin = record {
-        next = λ at. absurd (omega arith);
-        first = λ at. absurd (omega arith);
-        origin = λ at runs. origin_right runs;
-        value = λ at. absurd (omega arith);
-        outputs = λ at. absurd (omega arith);
-        written = λ q lt at. absurd (omega arith);
-        taken = λ q lt at. absurd (omega arith);
-        due = λ j lt at. absurd (omega arith);
-        period = λ j lt at. absurd (omega arith);
-        foreign_due = λ j lt at. absurd (omega arith);
-        foreign_period = λ j lt at. absurd (omega arith);
-        unused = λ from. absurd (omega arith);
-        state = λ from. absurd (omega arith);
-        rest = λ from. absurd (omega arith);
-      }
-
       pub block_right : (w : ℕ) → w < 8 * pages_of (thread_def program t) → IsBlockWord program new t w
       block_right w lt =
           elim (cases_Bool (w == header.origin)) [
-            | inl is ↦ subst (IsBlockWord program new t) (sym (eqb-true _ _ is)) at_origin
+            | inl is ↦ subst (IsBlockWord program new t) (sym (eqb-true _ _ is)) (block_at_origin program new t origin_right)
             | inr isnt ↦
                 let ne : w ≢ header.origin = λ e. absurd (let clash : false ≡ true = sym isnt ∙ eq-eqb _ _ e in cc) in
                 other_right w ne ((image.blocks t w known lt).others ne)
