@@ -140,8 +140,7 @@ pub rises_told : (program : Program) (words : Memory) (i place : ℕ) (e : OldEv
     (IsTrue r ↔ ComesAfter i e after) → (IsTrue r ↔ IsRisingReading program words i place)
 rises_told program words i place e after {r} lt is so_far test =
     let told : (IsTrue r ↔ ComesAfter i (old_event_at (old_held_for program words i) place) (after_held i (take place (old_held_for program words i)))) =
-        subst (λ (z : OldEvent × ℕ). IsTrue r ↔ ComesAfter i z.0 z.1) (λ k. (is k, so_far k)) test in
-    (
+    subst (λ (z : OldEvent × ℕ). IsTrue r ↔ ComesAfter i z.0 z.1) (λ k. (is k, so_far k)) test in (
       λ yes own. rising program words i place lt (told.0 yes own) own,
       λ rises. told.1 (λ own. above program words i place lt own rises),
     )
@@ -207,8 +206,7 @@ module _ (program : Program) (words : Memory) (t : ℕ) where
       (IsTrue r ↔ IsOldBlockWord program words t w)
   other_chain {r} w accepted at none test =
       let here : (IsTrue r ↔ IsBlockWord program words t header.origin) = subst (λ n. IsTrue r ↔ IsBlockWord program words t n) at test in
-      subst (λ n. IsTrue r ↔ IsOldBlockWord program words t n) (sym at)
-      (
+      subst (λ n. IsTrue r ↔ IsOldBlockWord program words t n) (sym at) (
         λ yes. record {
           origin = λ is runs. let found = (here.0 yes).origin refl runs in old_origin program words t accepted none found.0 runs found.1 found.2;
           others = λ ne. absurd (ne refl);

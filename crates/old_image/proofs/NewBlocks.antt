@@ -118,9 +118,9 @@ module _ (program : Program) (old new : Memory) (renewed : IsRenewed program old
           by_source ((o : Origin) × (committed new t header.origin ≡ origin_word o) × IsChainOrigin program new t o) before
           (λ chain. (origins.Source first_event.source 0, origin_new chain, source_own chain))
           (λ isnt.
-            let none : ¬ HasSourceChain old t = none_of_source isnt in
-            let found = (checked header.origin (omega arith)).origin refl before in
-            (found.0, origin_same t none ∙ found.1, other_origin found.0 none before found.1 found.2))
+          let none : ¬ HasSourceChain old t = none_of_source isnt in
+          let found = (checked header.origin (omega arith)).origin refl before in
+          (found.0, origin_same t none ∙ found.1, other_origin found.0 none before found.1 found.2))
 
       value_right : HasChain new t → IsChainValue (origin_of (committed new t header.origin)) (committed new t header.value)
       value_right runs =
@@ -128,12 +128,12 @@ module _ (program : Program) (old new : Memory) (renewed : IsRenewed program old
           let same : committed new t header.value ≡ committed old t header.value = committed_same t header.value (omega arith) in
           by_source (IsChainValue (origin_of (committed new t header.origin)) (committed new t header.value)) before
           (λ chain.
-            let is : committed new t header.value ≡ first_event.value = same ∙ ((image.queues t known).served chain).value in
-            subst (λ o. IsChainValue o (committed new t header.value)) (sym (origin_back chain))
-              (let fits = (first_read chain).fits.value_fits in omega (arith, is)))
+          let is : committed new t header.value ≡ first_event.value = same ∙ ((image.queues t known).served chain).value in
+          subst (λ o. IsChainValue o (committed new t header.value)) (sym (origin_back chain))
+          (let fits = (first_read chain).fits.value_fits in omega (arith, is)))
           (λ isnt.
-            subst (λ (z : ℕ × ℕ). IsChainValue (origin_of z.0) z.1) (λ k. (sym (origin_same t (none_of_source isnt)) k, sym same k))
-              (((checked header.value (omega arith)).others (omega arith)).value refl before))
+          subst (λ (z : ℕ × ℕ). IsChainValue (origin_of z.0) z.1) (λ k. (sym (origin_same t (none_of_source isnt)) k, sym same k))
+          (((checked header.value (omega arith)).others (omega arith)).value refl before))
 
       -- a word beside the origin is right as it was
       other_right : (w : ℕ) → w ≢ header.origin → IsBlockWord program old t w → IsBlockWord program new t w

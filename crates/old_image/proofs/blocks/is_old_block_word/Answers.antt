@@ -15,7 +15,7 @@ is_source_origin-requires-clause-chain c = c.has_source_chain.ensures.0 c.if-not
 pub returns-then-not-has_source_chain : goal.returns-then-not-has_source_chain
 returns-then-not-has_source_chain c =
     let none : ¬ HasSourceChain (board c.args.plan.now.accepted c.args.words.now) c.args.thread.0 =
-        λ chain. absurd (let clash : false ≡ true = sym c.if-not-has_source_chain.true ∙ c.has_source_chain.ensures.1 chain in cc) in
+    λ chain. absurd (let clash : false ≡ true = sym c.if-not-has_source_chain.true ∙ c.has_source_chain.ensures.1 chain in cc) in
     other_chain c.args.plan.now.accepted (board c.args.plan.now.accepted c.args.words.now) c.args.thread.0 c.args.word c.program-program.ensures.accepted
     (c.if-word-origin.false ∙ c.word-origin.ensures.number) none c.is_block_word-then-not-has_source_chain.ensures
 

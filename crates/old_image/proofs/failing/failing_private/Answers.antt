@@ -30,5 +30,5 @@ returns-clause-first c =
     some_map (λ place. IsFirstLogFault c.args.plan.now.accepted words (place_of place)) (λ place. IsFirstFailingOld c.args.plan.now.accepted words (place_of place))
     c.failing_output_word.result
     (λ place fault.
-      InLogs c.in_default.ensures.none c.in_default-failing_commit_word.ensures.none c.in_default-failing_old_block.ensures.none c.in_default-failing_pipe.ensures.none fault)
+    InLogs c.in_default.ensures.none c.in_default-failing_commit_word.ensures.none c.in_default-failing_old_block.ensures.none c.in_default-failing_pipe.ensures.none fault)
     c.failing_output_word.ensures.first
