@@ -1,2 +1,5 @@
 pub mod Text
 pub mod Reading
+pub mod Form
+pub mod Image
+pub mod Whole
