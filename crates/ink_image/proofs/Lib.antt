@@ -2,3 +2,9 @@ mod Common
 pub mod Rows
 pub mod Sections
 pub mod Again
+pub mod Behind
+pub mod Begun
+pub mod Judged
+pub mod Rests
+pub mod PlainTexts
+pub mod Once

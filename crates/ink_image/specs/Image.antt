@@ -1,10 +1,10 @@
 -- What the section of an image tells: where a run begins, or why none begins there.
-use Rattle.std.specs.Prelude.{◌≡◌, ◌≢◌, ℕ, List, length, Result, Ok, Err}
+use Rattle.std.specs.Prelude.{◌≡◌, ℕ, List, Result, Ok, Err}
 use Rattle.ink_base.specs.Tokens.{Entry}
 use Rattle.task_isa.specs.declared.program.Program.{Program}
-use Rattle.fram_words.specs.Places.{Memory, Place}
-use Rattle.fram_words.specs.Shape.{memory_of, address}
-use Rattle.ink_layout.specs.Shape.{shape_of, words_of, IsOnBoard}
+use Rattle.fram_words.specs.Places.{Place}
+use Rattle.fram_words.specs.Shape.{address}
+use Rattle.ink_layout.specs.Shape.{shape_of, IsOnBoard}
 use Rattle.never_cut.specs.Image.{IsImage}
 use Rattle.never_cut.specs.ReadOff.{IsReadOff}
 use Rattle.never_cut.specs.Stands.{Stands}
@@ -17,15 +17,7 @@ use Rattle.ink_image.specs.declared.image.ImageAnswer.TheVariants.{BadWord, Wron
 use Rattle.ink_image.specs.declared.reading.WordsAnswer.{WordsAnswer}
 use Rattle.ink_image.specs.declared.reading.WordsAnswer.TheVariants as reading
 use Rattle.ink_image.specs.Reading.{read}
-use Rattle.ink_image.specs.Form.{IsImageIn, FailsFirst, IsWornIn, AreToday}
-
--- words of the program's board, by place
-abbrev pub memory_in : Program → List ℕ → Memory
-memory_in program words = memory_of (shape_of program) words
-
--- as many words as the program's board has
-abbrev pub HasWords : Program → List ℕ → Type 0
-HasWords program words = length words ≡ words_of (shape_of program)
+use Rattle.ink_image.specs.Form.{memory_in, HasWords, IsImageIn, FailsFirst, IsWornIn, AreToday}
 
 -- the first check that fails names the word of this address
 pub record NamesFailing (form : Form) (program : Program) (words : List ℕ) (addr : ℕ) : Type 0 where

@@ -3,3 +3,4 @@ pub mod Reading
 pub mod Form
 pub mod Image
 pub mod Whole
+pub mod Plain

@@ -1,11 +1,11 @@
 //! The section of an image.
 
-ghost use Rattle.std.specs.Prelude.{◌≡◌, ◌-◌, ◌≤◌, length, drop, IfOk, IfErr};
+ghost use Rattle.std.specs.Prelude.{◌≡◌, ◌-◌, ◌≤◌, length, drop, IfOk};
 ghost use Rattle.ink_base.specs.Checks.{words_of};
 ghost use Rattle.ink_base.specs.TokenLines.{token_lines};
 ghost use Rattle.ink_image.specs.declared.image.ImageAnswer.TheVariants.{NoMemory as out_of_memory};
-ghost use Rattle.ink_image.specs.Form.{form_of, IsImageIn, IsWornIn};
-ghost use Rattle.ink_image.specs.Image.{memory_in, HasWords, GivesStart, Judges, JudgesSection, UnlessMemory, IsReady};
+ghost use Rattle.ink_image.specs.Form.{form_of, memory_in, HasWords, IsImageIn, IsWornIn};
+ghost use Rattle.ink_image.specs.Image.{GivesStart, Judges, JudgesSection, UnlessMemory, IsReady};
 ghost use Rattle.ink_image.specs.Reading.{section_entries};
 
 use crate::form::{Form, form_of};
@@ -131,7 +131,7 @@ fn judged_start(
     if is_worn(form, plan, listed, words.as_slice()) {
         return Err(ImageAnswer::Worn);
     }
-    start_of(alloc, form, plan, listed, words)
+    Ok(start_of(alloc, form, plan, listed, words)?)
 }
 
 // The start of an image that isn't worn.
@@ -141,16 +141,15 @@ fn start_of(
     plan: &Plan,
     listed: &[u32],
     words: Vec<u64>,
-) -> Result<Start, ImageAnswer>
+) -> Result<Start, NoMemory>
     requires count { HasWords plan.now.accepted words.items }
     requires image { IsImageIn form plan.now.accepted (memory_in plan.now.accepted words.items) }
     requires fresh { ¬ IsWornIn form plan.now.accepted listed.now (memory_in plan.now.accepted words.items) }
     ensures gives { IfOk result (GivesStart form plan.now.accepted listed.now words.items) }
     ensures ready { IfOk result (IsReady plan.now.accepted listed.now) }
-    ensures only_memory { IfErr result (λ e. e ≡ out_of_memory) }
 {
     let words = today(form, plan, words);
-    let model = read_off(alloc, plan, listed, words.as_slice())?;
+    let model = read_off(alloc, plan, words.as_slice())?;
     Ok(Start {
         words: Items::from_vec(words),
         model,

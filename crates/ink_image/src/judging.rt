@@ -6,8 +6,7 @@ ghost use Rattle.fram_words.specs.Steps.{place_of};
 ghost use Rattle.ink_layout.specs.Shape.{IsOnBoard};
 ghost use Rattle.never_cut.specs.Image.{IsImage};
 ghost use Rattle.never_cut.specs.Worn.{IsWorn};
-ghost use Rattle.ink_image.specs.Form.{IsImageIn, FailsFirst, IsWornIn, AreToday};
-ghost use Rattle.ink_image.specs.Image.{memory_in, HasWords};
+ghost use Rattle.ink_image.specs.Form.{memory_in, HasWords, IsImageIn, FailsFirst, IsWornIn, AreToday};
 
 use crate::form::Form;
 use fram_words::Place;
@@ -30,7 +29,6 @@ pub fn first_failing(form: Form, plan: &Plan, words: &[u64]) -> Option<Place>
 pub fn is_worn(form: Form, plan: &Plan, listed: &[u32], words: &[u64]) -> bool
     requires count { HasWords plan.now.accepted words.now }
     requires listed { length listed.now ≡ length plan.now.accepted.sources }
-    requires image { IsImageIn form plan.now.accepted (memory_in plan.now.accepted words.now) }
     ensures { IsTrue result ↔ IsWornIn form plan.now.accepted listed.now (memory_in plan.now.accepted words.now) }
 {
     match form {

@@ -3,6 +3,7 @@
 ghost use Rattle.std.specs.Prelude.{◌≡◌, ◌≤◌, ℕ, List, length, map, IfOk};
 ghost use Rattle.ink_base.specs.TokenLines.{token_lines};
 ghost use Rattle.ink_base.specs.Tokens.{entry_of};
+ghost use Rattle.ink_base.specs.declared.fault.JobAnswer.TheVariants as answers;
 ghost use Rattle.ink_image.specs.Image.{IsReady};
 ghost use Rattle.ink_image.specs.Reading.{section_entries};
 ghost use Rattle.ink_image.specs.Whole.{image_tails, listed_of, first_header, fault_at, job_from, IsJudged, IsMadeOf, IsJobOf, IsWithin, Answers};
@@ -71,10 +72,7 @@ fn judged_job(
     ensures { Answers (IsJudged (first_header (token_lines text.now section.now)) job form header (section_entries (token_lines text.now section.now))) result }
 {
     if let Some(line) = first_header(text, section) {
-        return Err(JobAnswer::Fault(JobFault {
-            line,
-            cause: Cause::BadSection,
-        }));
+        return Err(fault(line, Cause::BadSection));
     }
     let listed = listed_of(alloc, &job)?;
     match section_start(alloc, form, text, section, job.accepted(), listed.as_slice()) {
@@ -113,12 +111,17 @@ fn fault_at(header: u32, section: &[Token], answer: ImageAnswer) -> JobAnswer
     requires { IsWithin (length section.now) answer }
     ensures { (text : List ℕ) → result ≡ fault_at header (map (entry_of text) section.now) answer }
 {
-    let (line, cause) = match answer {
-        ImageAnswer::BadWord { line } => (line, Cause::BadWord),
-        ImageAnswer::WrongShape => (header, Cause::WrongShape),
-        ImageAnswer::NotStanding { addr } => (section[addr as usize].line, Cause::NotStanding),
-        ImageAnswer::Worn => (header, Cause::Worn),
-        ImageAnswer::NoMemory => return JobAnswer::NoMemory,
-    };
+    match answer {
+        ImageAnswer::BadWord { line } => fault(line, Cause::BadWord),
+        ImageAnswer::WrongShape => fault(header, Cause::WrongShape),
+        ImageAnswer::NotStanding { addr } => fault(section[addr as usize].line, Cause::NotStanding),
+        ImageAnswer::Worn => fault(header, Cause::Worn),
+        ImageAnswer::NoMemory => JobAnswer::NoMemory,
+    }
+}
+
+fn fault(line: u32, cause: Cause) -> JobAnswer
+    ensures { result ≡ answers.Fault (record { line = line; cause = cause }) }
+{
     JobAnswer::Fault(JobFault { line, cause })
 }
