@@ -3,10 +3,11 @@
 # To have it, write into ~/.bashrc, with the repository's path:
 #     source /path/to/ink_board/docs/completion/ink_board.bash
 
-# The flags that a mode takes.
+# The flags that a mode takes, and without a mode those of all.
 _ink_board_flags() {
   case $1 in
-    run) echo --journal --json ;;
+    '') echo --seed --journal --json --image ;;
+    run) echo --journal --json --image ;;
     print) ;;
     soak) echo --seed --journal --json ;;
   esac
@@ -50,7 +51,7 @@ _ink_board() {
       '<' | '>' | '>>' | '>|' | '<>') ((index++)) ;;
       run | print | soak) mode=${COMP_WORDS[index]} ;;
       --seed=*) used+=(--seed) ;;
-      --journal | --json | --seed) used+=("${COMP_WORDS[index]}") ;;
+      --journal | --json | --image | --seed) used+=("${COMP_WORDS[index]}") ;;
     esac
   done
 
@@ -58,8 +59,8 @@ _ink_board() {
   if [[ -z $mode && $current != -* ]]; then
     mapfile -t offered < <(_ink_board_modes "${used[@]}")
   else
-    for flag in $(_ink_board_flags "${mode:-soak}"); do # soak has them all
-      [[ " ${used[*]} " == *" $flag "* ]] || offered+=("$flag")
+    for flag in $(_ink_board_flags "$mode"); do
+      [[ " ${used[*]} " == *" $flag "* || -z $(_ink_board_modes "${used[@]}" "$flag") ]] || offered+=("$flag")
     done
   fi
   mapfile -t COMPREPLY < <(compgen -W "${offered[*]}" -- "$current")

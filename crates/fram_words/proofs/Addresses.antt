@@ -1,5 +1,5 @@
 -- Different places have different addresses.
-use Rattle.std.proofs.Common.{◌≡◌, ℕ, zero, suc, ◌+◌, ◌-◌, ◌<◌, ◌≤◌, true, ◌&&◌, List, [], ◌∷◌, length, get_or, set, arith, refl, ap, ◌∙◌, sym, inl, inr, subst}
+use Rattle.std.proofs.Common.{◌≡◌, ℕ, zero, suc, ◌+◌, ◌-◌, ◌*◌, ◌/◌, ◌%◌, ◌<◌, ◌≤◌, true, ◌&&◌, List, [], ◌∷◌, length, get_or, set, arith, refl, ap, ◌∙◌, sym, inl, inr, subst}
 use Rattle.std.specs.Prelude.{nat_lt}
 use Rattle.std.proofs.lemmas.Bool.{false≢true, cases_Bool, cases_order, and_parts, ltb-true}
 use Rattle.std.proofs.lemmas.List.{get_or-set_same, get_or-set_other}
@@ -7,6 +7,10 @@ use Rattle.std.proofs.Math.Path.{fun_ext}
 use Rattle.fram_words.specs.Places.{Place, Code, Commit, Page, Log, Ring, Tail, Slot, Ack, Clock, Src, store, same_place}
 use Rattle.fram_words.specs.Shape.{Shape, regions, words_before, region, offset, has_indices, is_valid, address, memory_of}
 use Rattle.fram_words.proofs.Frames.{same_place-true, same_place-refl}
+
+-- a word's number from its page and its place there
+pub whole_word : (w : ℕ) → 8 * (w / 8) + w % 8 ≡ w
+whole_word w = omega arith
 
 pub before_next : (xs : List ℕ) (i : ℕ) → words_before xs (suc i) ≡ words_before xs i + get_or xs i 0
 before_next [] zero = refl

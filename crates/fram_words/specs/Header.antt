@@ -1,5 +1,6 @@
 -- The numbers of the words of a thread's block: the header, and the state behind it.
 use Rattle.std.specs.Prelude.{ℕ, ◌+◌, ◌*◌, ◌<◌}
+use Rattle.ink_base.specs.declared.limits.TheConstants as limits
 use Rattle.fram_words.specs.declared.header.Header.{Header}
 use Rattle.fram_words.specs.declared.header.Header.TheVariants as headers
 
@@ -84,10 +85,10 @@ word_of (headers.Taken pipe) = taken pipe
 word_of (headers.Due timer) = due timer
 word_of (headers.Period timer) = period timer
 
--- there are at most 8 pipes and 8 timers
+-- the numbers of pipes and timers are within their limits
 abbrev pub IsHeader : Header → Type 0
-IsHeader (headers.Written pipe) = pipe < 8
-IsHeader (headers.Taken pipe) = pipe < 8
-IsHeader (headers.Due timer) = timer < 8
-IsHeader (headers.Period timer) = timer < 8
+IsHeader (headers.Written pipe) = pipe < limits.PIPES
+IsHeader (headers.Taken pipe) = pipe < limits.PIPES
+IsHeader (headers.Due timer) = timer < limits.TIMERS
+IsHeader (headers.Period timer) = timer < limits.TIMERS
 IsHeader _ = Unit {0}

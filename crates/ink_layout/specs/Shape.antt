@@ -1,5 +1,6 @@
 -- Which words the board of a program has.
 use Rattle.std.specs.Prelude.{ℕ, ◌+◌, ◌/◌, ◌<◌, ◌≤◌, List, All, length, map}
+use Rattle.ink_base.specs.declared.limits.TheConstants as limits
 use Rattle.task_isa.specs.declared.program.ThreadDef.{ThreadDef}
 use Rattle.task_isa.specs.declared.program.PipeDef.{PipeDef}
 use Rattle.task_isa.specs.declared.program.Task.{Task}
@@ -44,9 +45,9 @@ shape_of program =
       sources = length program.sources;
     }
 
--- no task has more than 4,096 instructions
+-- no task has more instructions than all tasks of a program can have
 abbrev pub AreShort : List Task → Type 0
-AreShort tasks = All (λ task. length task.code ≤ 4096) tasks
+AreShort tasks = All (λ task. length task.code ≤ limits.INSTRUCTIONS) tasks
 
 -- how many words there are
 abbrev pub words_of : Shape → ℕ

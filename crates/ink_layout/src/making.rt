@@ -7,6 +7,7 @@ ghost use Rattle.ink_layout.specs.Apart.{LieApart, LieWithin, AreDivided};
 
 use crate::starts::{region_lengths, starts_of};
 use fram_words::{Header, Layout, QueuePlace, ThreadPlace};
+use ink_base::limits::BOARD_WORDS;
 use ink_base::{Addr, NoMemory};
 use prog_check::Accepted;
 use sqlite_items::Items;
@@ -18,7 +19,7 @@ use task_isa::{Program, ThreadDef};
 /// the slots; the ACK of each source; and the clock. Then the SRC of each source.
 pub fn make_layout(alloc: Global, program: &Accepted) -> Result<Layout, NoMemory>
     ensures layout { IfOk result (λ layout. IsLayout program.now layout) }
-    ensures few { IfOk result (λ layout. layout.words < 100000) }
+    ensures few { IfOk result (λ layout. layout.words < BOARD_WORDS) }
     ensures apart { IfOk result (λ layout. LieApart program.now layout) }
     ensures within { IfOk result (λ layout. LieWithin program.now layout) }
     ensures divided { IfOk result (λ layout. AreDivided program.now layout) }
@@ -30,7 +31,7 @@ pub fn make_layout(alloc: Global, program: &Accepted) -> Result<Layout, NoMemory
 fn layout_of(alloc: Global, program: &Program) -> Result<Layout, NoMemory>
     requires { IsAccepted program.now }
     ensures layout { IfOk result (λ layout. IsLayout program.now layout) }
-    ensures few { IfOk result (λ layout. layout.words < 100000) }
+    ensures few { IfOk result (λ layout. layout.words < BOARD_WORDS) }
 {
     let lengths = region_lengths(alloc, program)?;
     let starts = starts_of(alloc, lengths.as_slice())?;

@@ -7,6 +7,7 @@ ghost use Rattle.ink_layout.specs.Layouts.{AreStarts};
 ghost use Rattle.ink_layout.specs.Shape.{shape_of, task_words, thread_shape, pipe_words, queue_words, AreShort};
 
 use fram_words::Header;
+use ink_base::limits::SOURCES;
 use ink_base::{Addr, NoMemory};
 use std::alloc::Global;
 use task_isa::{PipeDef, Program, Task, ThreadDef};
@@ -29,7 +30,7 @@ pub(crate) fn starts_of(alloc: Global, lengths: &[u32]) -> Result<Vec<Addr>, NoM
 // The lengths of a program's regions in the order of their addresses.
 pub(crate) fn region_lengths(alloc: Global, program: &Program) -> Result<Vec<u32>, NoMemory>
     requires short { AreShort program.now.tasks }
-    requires few { length program.now.sources ≤ 16 }
+    requires few { length program.now.sources ≤ SOURCES }
     ensures { IfOk result (λ lengths. lengths.items ≡ regions (shape_of program.now)) }
 {
     let mut lengths = Vec::new(alloc);

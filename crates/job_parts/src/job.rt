@@ -9,8 +9,8 @@ use sqlite_items::Items;
 use std::alloc::Global;
 use std::marker::Model;
 
-/// An accepted program, the readings of each of its sources, and its power trace, all within the limits: a source has at most
-/// 65,535 readings, and the 1 to 4,096 charges list turns of the board's own actors, at most 4,194,304 in all. A job may have a start: the
+/// An accepted program, the readings of each of its sources, and its power trace, all within the limits: those of a source's readings, of
+/// charges, of which there is one at least, and of the turns that all charges list, of the board's own actors. A job may have a start: the
 /// words of an image of its program that isn't worn, and the state that is read off them, which has settled no more readings than there are.
 #[derive(Drop)]
 pub struct Job {

@@ -81,7 +81,8 @@ pub use Rattle.task_isa.specs.declared.program.ThreadDef.{ThreadDef}
 pub use Rattle.task_run.proofs.Ranges.{every_task_fits}
 pub use Rattle.task_run.specs.Endings.{next_by, total_word}
 pub use Rattle.task_run.specs.Knows.{Knows, KnowsAt}
-pub use Rattle.task_run.specs.Machine.{Action, Get, Make, Put, access_of, action, after_act, after_action, after_event, after_fetch, after_resume, after_value, after_written, at_phase, cpu_of, device, fetch, first_phase, given_by, instr_of, is_late, is_over, point_at, proceed, sending, stepped, trap}
+pub use Rattle.task_run.specs.Actions.{Action, Get, Make, Put, access_of, action, cpu_of, device, fetch, given_by, is_late, sending}
+pub use Rattle.task_run.specs.Machine.{after_act, after_action, after_event, after_fetch, after_resume, after_value, after_written, at_phase, first_phase, instr_of, is_over, point_at, proceed, stepped, trap}
 pub use Rattle.task_run.specs.declared.machine.TaskMachine.{TaskMachine}
 pub use Rattle.task_run.specs.declared.phase.Phase.{Phase}
 pub use Rattle.thread_state.specs.Pages.{Buffer, Copying, IsUnderWay, Loading, Storing, after_copy, copy_access, is_dirty, place_in, put_access, working_mask, write_access}

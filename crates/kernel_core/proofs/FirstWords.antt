@@ -1,6 +1,7 @@
 -- The words with which a job's run begins stand for the state at which it begins.
 use Rattle.kernel_core.proofs.Common.{◌≡◌, inl, inr, ℕ, ◌+◌, ◌^◌, ◌<◌, ◌≤◌, List, length, Option, Some, None, refl, sym, ap, subst, arith, cases_lt, get_or_past, ThreadId, ThreadDef, Slot, Tail, Ack, Clock, Src, memory_of, Program, IsAccepted, thread_def, no_thread_def, source_thread, words_of, first_row, Queue, open_queue, IsStart, queue_of, source_in, thread_of, source_of, no_thread, no_source, Readings, AreShort, open_starts, first_model, AreFirstWords, Setup, shape, StandsFirst}
 use Rattle.std.specs.Option.{ForSome}
+use Rattle.ink_base.specs.declared.limits.TheConstants as limits
 use Rattle.prog_check.specs.Lookup as lookup
 use Rattle.push_core.specs.Queue.{Source, published, open_source, StandsQueue, KeepsNumbers}
 use Rattle.push_core.proofs.Unsettled.{unsettled_bound}
@@ -39,7 +40,7 @@ module _ (s : Setup) (words : List ℕ) (accepted : IsAccepted s.program) (short
   past_events : (t : ℕ) → length s.program.threads ≤ t → EventsKept (sides s) (sides_of s.first).queue (sides_of s.first).source t
   past_events t past = record {
     events = λ k lt. absurd (let none = ap (λ (q : Queue). length q.held) (past_queue t past) in omega arith);
-    positions = omega (arith, ap published (past_queue t past), unsettled_bound (sides s).queue_of (sides s).readings (sources_in s.first) t (length s.program.sources) 65535 short.few, accepted.counts.sources);
+    positions = omega (arith, ap published (past_queue t past), unsettled_bound (sides s).queue_of (sides s).readings (sources_in s.first) t (length s.program.sources) limits.READINGS short.few, accepted.counts.sources);
   }
 
   past_numbers : (i : ℕ) → length s.program.sources ≤ i →

@@ -1,17 +1,12 @@
 -- The first board holds.
 use Rattle.kernel_core.proofs.Common.{◌≡◌, inl, inr, ℕ, zero, suc, ◌+◌, ◌*◌, ◌≤◌, ◌&&◌, Bool, true, false, List, [], ◌∷◌, length, map, take, replicate, get_or, refl, sym, ap, subst, arith, nat_lt, le-ltb, cases_lt, length-map, length-replicate, get_or-replicate, get_or_past, ThreadId, Place, Tail, Slot, Ack, Clock, Src, memory_of, region, offset, has_indices, Program, ThreadDef, IsAccepted, thread_def, no_thread_def, shape_of, thread_shape, task_words, pipe_words, queue_words, in_rest, IsFirstImage, first_row, open_queue, State, IsFirst, IsStart, start_first, kept_start, queue_of, source_in, no_thread, no_source, open_model, open_thread, open_source, Model, StandsPrivate, AreShort, lasts_less, open_lasts, open_starts, sound_after, boot_begins, ChargeRecord, not_begun, charge_of, Setup, Board, shape, sides, row_of, journal, moved_by, first_board, seen, IsSetup, StandsFirst, memory, HasSize, Holds, ticks, turns, IsInRange, EveryPrefixStands, ImagePrefixesStand, OneIsFinished}
+use Rattle.never_cut.proofs.SoundStates.{open_source_at}
 use Rattle.never_cut.proofs.FirstImages.{false_second, nothing_at, first_private}
 use Rattle.never_cut.specs.Start.{CanStart}
 use Rattle.kernel_core.proofs.Sides.{within_limits, shared_of}
 use Rattle.kernel_core.proofs.Cuts.{first_rows}
 use Rattle.kernel_core.proofs.Runs.{moves_hold, moves_taken, ticks_taken, turns_taken}
 use Rattle.kernel_core.proofs.Standing.{board_stands}
-
--- the sources of the state at the start
-open_source_at : (sources : List ThreadId) (i : ℕ) → get_or (map open_source sources) i no_source ≡ no_source
-open_source_at [] i = refl
-open_source_at (s ∷ sources) zero = refl
-open_source_at (s ∷ sources) (suc i) = open_source_at sources i
 
 -- a place past the threads has no words
 no_queue_word : (program : Program) (t : ℕ) → length program.threads ≤ t → nat_lt t (length (map queue_words program.threads)) ≡ false

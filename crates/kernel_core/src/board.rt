@@ -1,34 +1,31 @@
 //! The board of a job and its turns.
-ghost use Rattle.std.specs.Prelude.{◌≡◌, ◌+◌, ◌<◌, ◌≤◌, [], length, map, slice_index_or, vec_capacity, Some};
-ghost use Rattle.ink_layout.specs.Points.{entry_of_point};
-ghost use Rattle.push_core.specs.Table.{IsLeft, want_of};
-ghost use Rattle.source_laws.specs.Rows.{port_of};
-ghost use Rattle.never_cut.specs.Entries.{readings_of};
-ghost use Rattle.kernel_core.specs.Board.{first_board, turn, cut, kernel_turn, clock_turn, source_made, source_turn, source_access, row_of, sides, entry_of_source};
+ghost use Rattle.std.specs.Prelude.{◌≡◌, ◌+◌, ◌<◌, ◌≤◌, [], length, map, vec_capacity};
+ghost use Rattle.kernel_core.specs.Board.{first_board, turn, cut};
 ghost use Rattle.kernel_core.specs.Stands.{BoardStands};
 ghost use Rattle.kernel_core.specs.Moves.{IsActor};
-ghost use Rattle.kernel_core.specs.Made.{made_by, kernel_made, access_made, source_makes, clock_made, nothing_made, accesses_in};
+ghost use Rattle.kernel_core.specs.Made.{made_by, accesses_in};
 ghost use Rattle.kernel_core.specs.Settling.{RefusalsKeep, SkipsStore};
 ghost use Rattle.kernel_core.specs.RunRecords.{RecordStands};
-ghost use Rattle.job_parts.specs.Job.{AreFirstWords, IsJob, item_turns, charge_turns};
+ghost use Rattle.job_parts.specs.Job.{AreFirstWords, IsJob};
 ghost use Rattle.kernel_core.specs.kept.Starts.{AreFirstPushers, AreFirstRecords};
 ghost use Rattle.kernel_core.specs.kept.Recorded.{emptied};
 ghost use Rattle.kernel_core.specs.First.{StandsFirst};
-ghost use Rattle.kernel_core.specs.Core.{View, setup_of, turns_in, no_charge, job_of};
+ghost use Rattle.kernel_core.specs.Core.{View, setup_of, turns_in, job_of};
 ghost use Rattle.kernel_core.specs.kept.Cores.{IsCore, row_in, charge_in, rebooted};
+
+mod turns;
 
 use crate::charge_record::ChargeRecord;
 use crate::kernel::Kernel;
 use crate::made::Made;
 use crate::recording::Recording;
 use crate::run_record::{RunRecord, finished};
-use crate::start::{CoreParts, write_first_words};
+use crate::start::{CoreParts, turns_in, write_first_words};
 use fram_words::{Access, Fram};
-use ink_base::limits::TURNS;
-use ink_base::{Actor, Entry, SourceId};
-use ink_layout::{KernelPoint, Plan};
+use ink_base::Actor;
+use ink_layout::Plan;
 use job_parts::{Charge, Job, Start};
-use push_core::{Point, Pusher, Row};
+use push_core::{Pusher, Row};
 use sqlite_items::Items;
 use std::marker::Model;
 
@@ -221,120 +218,11 @@ impl Core {
         self.begun += 1;
     }
 
-    fn turn(&mut self, actor: Actor) -> Made
-        requires known { IsActor (setup_of self.old.job) actor }
-        requires begun { 0 < self.old.board.begun }
-        requires room { 0 < self.old.room }
-        ensures board { self.new.board ≡ turn (setup_of self.old.job) self.old.board actor }
-        ensures made { result ≡ made_by (setup_of self.old.job) self.old.board actor }
-        ensures job { self.new.job ≡ self.old.job }
-        ensures room { self.old.room ≡ self.new.room + accesses_in result }
-    {
-        match actor {
-            Actor::Kernel => self.kernel_turn(),
-            Actor::Source(source) => self.source_turn(source),
-            Actor::Clock => self.clock_turn(),
-        }
-    }
-
     // The journal is legal, and the words stand for the never-cut kernel after it.
     pub(crate) fn stands(&self)
         ensures { BoardStands (setup_of self.now.job) self.now.board }
     {
         let _begun = self.begun;
-    }
-
-    fn kernel_turn(&mut self) -> Made
-        requires begun { 0 < self.old.board.begun }
-        requires room { 0 < self.old.room }
-        ensures board { self.new.board ≡ kernel_turn (setup_of self.old.job) self.old.board }
-        ensures made { result ≡ kernel_made (setup_of self.old.job) self.old.board }
-        ensures job { self.new.job ≡ self.old.job }
-        ensures room { self.old.room ≡ self.new.room + accesses_in result }
-    {
-        let access = self.kernel.want(&self.plan);
-        let word = self.fram.perform(access);
-        let point = self.kernel.point(word);
-        let entry = entry_of_point(point);
-        self.charges[self.begun - 1].note_kernel(entry);
-        self.kernel.take(&self.plan, word);
-        self.room -= 1;
-        Made {
-            access: Some(access),
-            word,
-            entry,
-        }
-    }
-
-    fn clock_turn(&mut self) -> Made
-        requires begun { 0 < self.old.board.begun }
-        requires room { 0 < self.old.room }
-        ensures board { self.new.board ≡ clock_turn (setup_of self.old.job) self.old.board }
-        ensures made { result ≡ clock_made (setup_of self.old.job) self.old.board }
-        ensures job { self.new.job ≡ self.old.job }
-        ensures room { self.old.room ≡ self.new.room + accesses_in result }
-    {
-        let access = Access::Add {
-            addr: self.plan.layout.clock,
-            by: 1,
-        };
-        let word = self.fram.perform(access);
-        self.charges[self.begun - 1].note_tick();
-        self.room -= 1;
-        Made {
-            access: Some(access),
-            word,
-            entry: Some(Entry::Tick { by: 1 }),
-        }
-    }
-
-    fn source_turn(&mut self, source: SourceId) -> Made
-        requires known { source.0 < length self.old.job.program.sources }
-        requires begun { 0 < self.old.board.begun }
-        requires room { 0 < self.old.room }
-        ensures board { self.new.board ≡ source_turn (setup_of self.old.job) self.old.board source.0 }
-        ensures made { result ≡ source_makes (setup_of self.old.job) self.old.board source.0 }
-        ensures job { self.new.job ≡ self.old.job }
-        ensures room { self.old.room ≡ self.new.room + accesses_in result }
-    {
-        match self.next_access(source) {
-            Some(access) => self.source_made(source, access),
-            None => nothing_made(),
-        }
-    }
-
-    // The access of a source's row; none where it has none left.
-    fn next_access(&self, source: SourceId) -> Option<Access>
-        requires known { source.0 < length self.now.job.program.sources }
-        ensures { result ≡ want_of (port_of (sides (setup_of self.now.job)) source.0) (readings_of self.now.job.readings source.0) (row_of self.now.board source.0) }
-    {
-        let readings = readings_at(&self.readings, source);
-        self.pushers[source.0 as usize].want(readings)
-    }
-
-    fn source_made(&mut self, source: SourceId, access: Access) -> Made
-        requires known { source.0 < length self.old.job.program.sources }
-        requires begun { 0 < self.old.board.begun }
-        requires room { 0 < self.old.room }
-        requires has_left { IsLeft (length (readings_of self.old.job.readings source.0)) (row_of self.old.board source.0) }
-        requires access { access ≡ source_access (setup_of self.old.job) self.old.board source.0 }
-        ensures board { self.new.board ≡ source_made (setup_of self.old.job) self.old.board source.0 }
-        ensures made { result ≡ access_made (setup_of self.old.job) self.old.board source.0 }
-        ensures job { self.new.job ≡ self.old.job }
-        ensures room { self.old.room ≡ self.new.room + accesses_in result }
-    {
-        let i = source.0 as usize;
-        let word = self.fram.perform(access);
-        let readings = readings_at(&self.readings, source);
-        let point = self.pushers[i].take(readings, word);
-        let entry = entry_of_source(source, point);
-        self.charges[self.begun - 1].note_source(i, entry);
-        self.room -= 1;
-        Made {
-            access: Some(access),
-            word,
-            entry,
-        }
     }
 }
 
@@ -353,62 +241,5 @@ fn clear_records(charges: &mut Vec<Recording>)
 {
     for charge in charges.iter_mut() {
         charge.clear();
-    }
-}
-
-// The turns that a charge lists.
-pub(crate) fn turns_in(charges: &[Charge], k: usize) -> u64
-    requires known { k < length charges.now }
-    requires few { charge_turns charges.now ≤ TURNS }
-    ensures turns { result ≡ item_turns (slice_index_or charges.now k no_charge).items }
-    ensures few { result ≤ TURNS }
-{
-    let mut turns = 0;
-    for item in charges[k].items.as_slice() {
-        turns += item.count as u64;
-    }
-    turns
-}
-
-// The readings of a source.
-fn readings_at(readings: &Items<Items<u32>>, source: SourceId) -> &[u32]
-    requires { source.0 < length readings.now }
-    ensures { result.now ≡ readings_of readings.now source.0 }
-{
-    readings.as_slice()[source.0 as usize].as_slice()
-}
-
-fn nothing_made() -> Made
-    ensures { result ≡ nothing_made }
-{
-    Made {
-        access: None,
-        word: 0,
-        entry: None,
-    }
-}
-
-// The entry that a point of the kernel stands for.
-fn entry_of_point(point: KernelPoint) -> Option<Entry>
-    ensures { result ≡ entry_of_point point }
-{
-    match point {
-        KernelPoint::Nothing => None,
-        KernelPoint::Scan => Some(Entry::Scan),
-        KernelPoint::Look(thread) => Some(Entry::Look { thread }),
-        KernelPoint::Commit(thread) => Some(Entry::Commit { thread }),
-        KernelPoint::Release(thread) => Some(Entry::Release { thread }),
-    }
-}
-
-// The entry that a point of a source stands for.
-fn entry_of_source(source: SourceId, point: Point) -> Option<Entry>
-    ensures { result ≡ entry_of_source source.0 point }
-{
-    match point {
-        Point::Nothing => None,
-        Point::Pushed => Some(Entry::Push { source }),
-        Point::Refused => Some(Entry::Refuse { source }),
-        Point::Skipped => Some(Entry::Skip { source }),
     }
 }

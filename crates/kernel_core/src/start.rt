@@ -1,19 +1,20 @@
 //! A board before its first charge.
-ghost use Rattle.std.specs.Prelude.{◌≡◌, ◌<◌, ◌≤◌, [], length, vec_capacity, IfOk};
+ghost use Rattle.std.specs.Prelude.{◌≡◌, ◌<◌, ◌≤◌, [], length, slice_index_or, vec_capacity, IfOk};
 ghost use Rattle.std.specs.Option.{ForSome};
 ghost use Rattle.push_core.specs.Table.{IsPort};
 ghost use Rattle.ink_layout.specs.Shape.{shape_of, words_of};
 ghost use Rattle.kernel_core.specs.Board.{first_board};
 ghost use Rattle.kernel_core.specs.First.{StandsFirst};
 ghost use Rattle.kernel_core.specs.Stands.{BoardStands};
-ghost use Rattle.kernel_core.specs.Core.{setup_of, job_of};
-ghost use Rattle.job_parts.specs.Job.{AreFirstWords, IsJob};
+ghost use Rattle.kernel_core.specs.Core.{setup_of, no_charge, job_of};
+ghost use Rattle.job_parts.specs.Job.{AreFirstWords, IsJob, item_turns, charge_turns};
 ghost use Rattle.kernel_core.specs.kept.Starts.{FitsBoard, port_in, IsFirstRecord, AreFirstPushers, AreFirstRecords};
 
-use crate::board::{Core, turns_in};
+use crate::board::Core;
 use crate::charge_record::ChargeRecord;
 use crate::recording::Recording;
 use fram_words::{Access, Fram, Place};
+use ink_base::limits::TURNS;
 use ink_base::{NoMemory, SourceId};
 use ink_layout::{Plan, write_first_image};
 use job_parts::{Charge, Job, Start};
@@ -147,4 +148,18 @@ fn first_record(alloc: Global, job: &Job, k: usize) -> Result<Recording, NoMemor
     let sources = job.readings().len();
     let room = turns_in(job.charges(), k) as usize + 1;
     Recording::new(alloc, sources, room)
+}
+
+// The turns that a charge lists.
+pub(crate) fn turns_in(charges: &[Charge], k: usize) -> u64
+    requires known { k < length charges.now }
+    requires few { charge_turns charges.now ≤ TURNS }
+    ensures turns { result ≡ item_turns (slice_index_or charges.now k no_charge).items }
+    ensures few { result ≤ TURNS }
+{
+    let mut turns = 0;
+    for item in charges[k].items.as_slice() {
+        turns += item.count as u64;
+    }
+    turns
 }

@@ -9,6 +9,10 @@ mod kernel_core_rows;
 #[cfg(test)]
 mod priority_sched_rows;
 #[cfg(test)]
+mod scans;
+#[cfg(test)]
+mod served_words;
+#[cfg(test)]
 mod task_board;
 #[cfg(test)]
 mod task_run_rows;

@@ -7,10 +7,10 @@ ghost use Rattle.fram_words.specs.Held.{FitsOrigin};
 ghost use Rattle.task_run.specs.Fits.{FitsChain, FitsExecution, FitsPhase, FitsSending, FitsSetting, FitsTask, FitsWord};
 
 use crate::fixtures::plan;
-use fram_words::{Access, Fram, ThreadPlace};
-use ink_base::{Addr, Origin, TaskId};
-use ink_layout::{KernelPoint, Pick, Plan, first_image};
-use std::alloc::Global;
+use fram_words::{Access, Fram};
+use ink_base::limits::{INSTRUCTIONS, PIPES, QUEUE_PLACES, TASK_LIMIT, TIMERS};
+use ink_base::{Origin, TaskId};
+use ink_layout::{KernelPoint, Pick, Plan};
 use task_isa::{Program, ThreadDef};
 use task_run::{Execution, Phase, Sending, TaskMachine};
 
@@ -20,8 +20,8 @@ fn is_executing(program: &Program, x: &Execution) -> bool
 {
     match program.tasks.as_slice().get(x.task.0 as usize) {
         Some(task) => (x.at as usize) < task.code.len()
-            && x.at < 4096
-            && x.executed < 4096
+            && (x.at as usize) < INSTRUCTIONS
+            && x.executed < TASK_LIMIT as u32
             && x.executed < task.limit as u32,
         None => false,
     }
@@ -37,14 +37,15 @@ fn is_origin(origin: Origin) -> bool
     }
 }
 
-// The number of the event's pipe or timer is below 8.
+// The event is of a pipe or a timer, whose number is within the limits.
 fn is_device(origin: Origin) -> bool
-    ensures { IsTrue result → number_of origin < 8 }
+    ensures pipe { IsTrue result → number_of origin < PIPES }
+    ensures timer { IsTrue result → number_of origin < TIMERS }
 {
     match origin {
-        Origin::Source { source, .. } => source.0 < 8,
-        Origin::Pipe { pipe, .. } => pipe.0 < 8,
-        Origin::Timer { timer, .. } => timer.0 < 8,
+        Origin::Source { .. } => false,
+        Origin::Pipe { pipe, .. } => (pipe.0 as usize) < PIPES,
+        Origin::Timer { timer, .. } => (timer.0 as usize) < TIMERS,
     }
 }
 
@@ -121,7 +122,7 @@ fn can_want(program: &Program, machine: &TaskMachine) -> bool
         .as_slice()
         .get(machine.pick.thread.0 as usize)
     {
-        Some(def) => def.queue <= 32
+        Some(def) => def.queue <= QUEUE_PLACES
             && machine.pick.position < 1000
             && machine.pick.time < 1000
             && machine.stamp < 1000
@@ -172,7 +173,7 @@ fn step(plan: &Plan, fram: &mut Fram, machine: &mut TaskMachine) -> Option<Kerne
 }
 
 // The numbers of the first accesses that commit and that release, counted from 1; 0 for none.
-fn numbers(plan: &Plan, fram: &mut Fram, pick: Pick, stamp: u64) -> (u32, u32) {
+pub(crate) fn numbers(plan: &Plan, fram: &mut Fram, pick: Pick, stamp: u64) -> (u32, u32) {
     let mut machine = TaskMachine::begin(pick, stamp);
     let mut committed = 0;
     for n in 1..200 {
@@ -184,89 +185,4 @@ fn numbers(plan: &Plan, fram: &mut Fram, pick: Pick, stamp: u64) -> (u32, u32) {
         }
     }
     (committed, 0)
-}
-
-// The word at an address; none exactly where it isn't on the board.
-fn word_at(fram: &Fram, addr: Addr) -> Option<u64> {
-    if addr < fram.len() {
-        Some(fram.word(addr))
-    } else {
-        None
-    }
-}
-
-// A word of the committed copy of a thread's header.
-fn header(place: &ThreadPlace, fram: &Fram, word: u32) -> Option<u64> {
-    let mask = word_at(fram, place.commit)?;
-    if word < 48 && place.first < 100000 {
-        let copy = (mask >> (word / 8) & 1) as u32;
-        word_at(fram, place.first + 16 * (word / 8) + 8 * copy + word % 8)
-    } else {
-        None
-    }
-}
-
-// Four of them.
-fn headers(place: &ThreadPlace, fram: &Fram, words: [u32; 4]) -> Option<[u64; 4]> {
-    let [a, b, c, d] = words;
-    Some([
-        header(place, fram, a)?,
-        header(place, fram, b)?,
-        header(place, fram, c)?,
-        header(place, fram, d)?,
-    ])
-}
-
-// The words of the first two outputs of a thread.
-fn outputs(place: &ThreadPlace, fram: &Fram) -> Option<[u64; 2]> {
-    Some([
-        word_at(fram, place.log)?,
-        word_at(fram, place.log.wrapping_add(1))?,
-    ])
-}
-
-// The first ring word of the first pipe.
-fn first_item(rings: &[Addr], fram: &Fram) -> Option<u64> {
-    word_at(fram, *rings.first()?)
-}
-
-/// What the service of a pick is seen by: the numbers of its accesses that commit and that release, counted from 1, and 0 for none; some
-/// words of the thread's header after it, and its first two outputs; and the first item of the first pipe, where there is one.
-#[derive(Clone, Copy)]
-pub(crate) struct Served {
-    pub numbers: (u32, u32),
-    pub headers: [u64; 4],
-    pub outputs: [u64; 2],
-    pub item: Option<u64>,
-}
-
-// The service of a pick on the words of a board, after so many commits.
-fn served_on(
-    plan: &Plan,
-    fram: &mut Fram,
-    pick: Pick,
-    stamp: u64,
-    words: [u32; 4],
-) -> Option<Served> {
-    let numbers = numbers(plan, fram, pick, stamp);
-    let place = plan.layout.threads.as_slice().get(pick.thread.0 as usize)?;
-    Some(Served {
-        numbers,
-        headers: headers(place, fram, words)?,
-        outputs: outputs(place, fram)?,
-        item: first_item(plan.layout.rings.as_slice(), fram),
-    })
-}
-
-/// The service of a pick on the first image of a job's program, after so many commits, and these words of the thread's header after it.
-pub(crate) fn serve(
-    alloc: Global,
-    text: &[u8],
-    pick: Pick,
-    stamp: u64,
-    words: [u32; 4],
-) -> Option<Served> {
-    let plan = plan(alloc, text).ok()?;
-    let mut fram = first_image(alloc, &plan.accepted, &plan.layout).ok()?;
-    served_on(&plan, &mut fram, pick, stamp, words)
 }

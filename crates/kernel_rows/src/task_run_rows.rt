@@ -1,7 +1,7 @@
 //! Services by hand: each access of a task on the words of a board.
 
 use crate::fixtures::{SENDING, SUMMING};
-use crate::task_board::serve;
+use crate::served_words::serve;
 use ink_base::{Event, Origin, PipeId, SourceId, TaskId, ThreadId, TimerId};
 use ink_layout::Pick;
 use std::test::Fail;

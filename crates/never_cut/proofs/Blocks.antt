@@ -1,5 +1,6 @@
 -- What the words of a committed copy say.
 use Rattle.never_cut.proofs.Common.{◌≡◌, ℕ, zero, suc, ◌+◌, ◌-◌, ◌<◌, ◌≤◌, List, [], ◌∷◌, length, take, replicate, Some, arith, refl, ◌∙◌, ◌==◌, ◌&&◌, if◌then◌else◌, nat_lt, slice_index, lt-ltb, eq-eqb, get_or_append_left, get_or-append_right, get_or-replicate, Event, Program, Memory, next_word, origin_word, due_word, committed, IsAccepted, pipe_def, timer_def, Model, thread_of, pipe_of, timer_of, outputs_of, Saved, saved, flag, StandsPrivate}
+use Rattle.ink_base.specs.declared.limits.TheConstants as limits
 use Rattle.never_cut.specs.Stands.{thread_words}
 use Rattle.fram_words.specs.Header as header
 
@@ -15,22 +16,22 @@ below_eight P a b c d e f g h (suc (suc (suc (suc (suc (suc zero)))))) lt = g
 below_eight P a b c d e f g h (suc (suc (suc (suc (suc (suc (suc zero))))))) lt = h
 below_eight P a b c d e f g h (suc (suc (suc (suc (suc (suc (suc (suc q)))))))) lt = absurd (omega arith)
 
-pub written_at : (y : Saved) (stamp origin value q : ℕ) → q < 8 → slice_index (thread_words y stamp origin value) (header.written q) ≡ y.written q
+pub written_at : (y : Saved) (stamp origin value q : ℕ) → q < limits.PIPES → slice_index (thread_words y stamp origin value) (header.written q) ≡ y.written q
 unfolding thread_words
 written_at y stamp origin value q lt =
     below_eight (λ k. slice_index (thread_words y stamp origin value) (header.written k) ≡ y.written k) refl refl refl refl refl refl refl refl q lt
 
-pub taken_at : (y : Saved) (stamp origin value q : ℕ) → q < 8 → slice_index (thread_words y stamp origin value) (header.taken q) ≡ y.taken q
+pub taken_at : (y : Saved) (stamp origin value q : ℕ) → q < limits.PIPES → slice_index (thread_words y stamp origin value) (header.taken q) ≡ y.taken q
 unfolding thread_words
 taken_at y stamp origin value q lt =
     below_eight (λ k. slice_index (thread_words y stamp origin value) (header.taken k) ≡ y.taken k) refl refl refl refl refl refl refl refl q lt
 
-pub due_at : (y : Saved) (stamp origin value j : ℕ) → j < 8 → slice_index (thread_words y stamp origin value) (header.due j) ≡ y.due j
+pub due_at : (y : Saved) (stamp origin value j : ℕ) → j < limits.TIMERS → slice_index (thread_words y stamp origin value) (header.due j) ≡ y.due j
 unfolding thread_words
 due_at y stamp origin value j lt =
     below_eight (λ k. slice_index (thread_words y stamp origin value) (header.due k) ≡ y.due k) refl refl refl refl refl refl refl refl j lt
 
-pub period_at : (y : Saved) (stamp origin value j : ℕ) → j < 8 → slice_index (thread_words y stamp origin value) (header.period j) ≡ y.period j
+pub period_at : (y : Saved) (stamp origin value j : ℕ) → j < limits.TIMERS → slice_index (thread_words y stamp origin value) (header.period j) ≡ y.period j
 unfolding thread_words
 period_at y stamp origin value j lt =
     below_eight (λ k. slice_index (thread_words y stamp origin value) (header.period k) ≡ y.period k) refl refl refl refl refl refl refl refl j lt
@@ -85,7 +86,7 @@ pub taken_count : (program : Program) (words : Memory) (m : Model) (t q : ℕ) �
     q < length program.pipes → (pipe_def program q).reader.0 ≡ t → committed words t (header.taken q) ≡ (pipe_of m q).taken
 taken_count program words m t q accepted known h within own =
     let x = h.threads t known in
-    let few : length program.pipes ≤ 8 = accepted.counts.pipes in
+    let few : length program.pipes ≤ limits.PIPES = accepted.counts.pipes in
     x.block (header.taken q) ∙ (taken_at (saved program m t) x.stamp x.origin x.value q (omega arith)
     ∙ chosen q (length program.pipes) (pipe_def program q).reader.0 t (pipe_of m q).taken within own)
 
@@ -95,7 +96,7 @@ pub written_count : (program : Program) (words : Memory) (m : Model) (q : ℕ) �
 written_count program words m q accepted h within =
     let pipe = accepted.pipes q within in
     let x = h.threads (pipe_def program q).writer.0 pipe.writer in
-    let few : length program.pipes ≤ 8 = accepted.counts.pipes in
+    let few : length program.pipes ≤ limits.PIPES = accepted.counts.pipes in
     x.block (header.written q) ∙ (written_at (saved program m (pipe_def program q).writer.0) x.stamp x.origin x.value q (omega arith)
     ∙ chosen q (length program.pipes) (pipe_def program q).writer.0 (pipe_def program q).writer.0 ((pipe_of m q).taken + length (pipe_of m q).items) within refl)
 
@@ -104,7 +105,7 @@ pub timer_count : (program : Program) (words : Memory) (m : Model) (t j : ℕ) �
     j < length program.timers → (timer_def program j).thread.0 ≡ t → committed words t (header.due j) ≡ due_word (timer_of m j).due
 timer_count program words m t j accepted known h within own =
     let x = h.threads t known in
-    let few : length program.timers ≤ 8 = accepted.counts.timers in
+    let few : length program.timers ≤ limits.TIMERS = accepted.counts.timers in
     x.block (header.due j) ∙ (due_at (saved program m t) x.stamp x.origin x.value j (omega arith)
     ∙ chosen j (length program.timers) (timer_def program j).thread.0 t (due_word (timer_of m j).due) within own)
 
@@ -113,7 +114,7 @@ pub period_count : (program : Program) (words : Memory) (m : Model) (t j : ℕ) 
     j < length program.timers → (timer_def program j).thread.0 ≡ t → committed words t (header.period j) ≡ (timer_of m j).period
 period_count program words m t j accepted known h within own =
     let x = h.threads t known in
-    let few : length program.timers ≤ 8 = accepted.counts.timers in
+    let few : length program.timers ≤ limits.TIMERS = accepted.counts.timers in
     x.block (header.period j) ∙ (period_at (saved program m t) x.stamp x.origin x.value j (omega arith)
     ∙ chosen j (length program.timers) (timer_def program j).thread.0 t ((timer_of m j).period) within own)
 

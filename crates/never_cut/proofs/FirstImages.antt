@@ -3,6 +3,7 @@ use Rattle.never_cut.proofs.Common.{◌≡◌, inl, inr, ℕ, zero, suc, ◌+◌
 use Rattle.fram_words.specs.Places.{Commit}
 use Rattle.never_cut.specs.Stands.{thread_words}
 use Rattle.std.specs.Int.{bit_at}
+use Rattle.ink_base.specs.declared.limits.TheConstants as limits
 use Rattle.std.proofs.Math.ListN.{get_or-map}
 use Rattle.std.proofs.lemmas.Nat.Bits.{bit_at-lt}
 use Rattle.fram_words.specs.Shape.{is_valid, memory_of, address, regions, region, has_indices, thread_regions, queue_regions}
@@ -39,7 +40,7 @@ pub nothing_at : (program : Program) (words : List ℕ) (p : Place) → is_valid
 nothing_at program words p past = ap (λ (b : Bool). cond b (slice_index words (address (shape_of program) p)) 0) past
 
 -- no word behind the header's timers is a timer's
-past_timers : (program : Program) (t w : ℕ) → length program.timers ≤ 8 → 42 ≤ w → timed_word program (length program.timers) t w ≡ 0
+past_timers : (program : Program) (t w : ℕ) → length program.timers ≤ limits.TIMERS → 42 ≤ w → timed_word program (length program.timers) t w ≡ 0
 past_timers program t w few past =
     let j : ℕ = (w - 26) / 2 in
     let none : nat_lt j (length program.timers) ≡ false = le-ltb _ _ (omega arith) in
@@ -51,7 +52,7 @@ past_timers program t w few past =
     never false v = refl
 
 -- each word of a thread's pages is that of the first image, whichever copy
-page_word : (program : Program) (words : List ℕ) (t mask w : ℕ) → length program.timers ≤ 8 → IsFirstImage program words → t < length program.threads →
+page_word : (program : Program) (words : List ℕ) (t mask w : ℕ) → length program.timers ≤ limits.TIMERS → IsFirstImage program words → t < length program.threads →
     memory_of (shape_of program) words (place_in t mask w) ≡ timed_word program (length program.timers) t w
 page_word program words t mask w few first known =
     elim (cases_lt (w / 8) (pages_of (thread_def program t))) [
@@ -111,7 +112,7 @@ open_saved program t = record {
   period = λ j. if is_timer_of program (length program.timers) t j then (timer_def program j).period else 0;
 }
 
-open_words : (program : Program) (t w : ℕ) → length program.timers ≤ 8 → get_or (thread_words (open_saved program t) 0 0 0) w 0 ≡ timed_word program (length program.timers) t w
+open_words : (program : Program) (t w : ℕ) → length program.timers ≤ limits.TIMERS → get_or (thread_words (open_saved program t) 0 0 0) w 0 ≡ timed_word program (length program.timers) t w
 unfolding thread_words open_saved listed
 open_words program t w few =
     let f : ℕ → ℕ = timed_word program (length program.timers) t in
@@ -175,7 +176,7 @@ saved_open program t =
     }
 
 -- the block of a thread at the start
-pub first_words : (program : Program) (t w : ℕ) → length program.timers ≤ 8 →
+pub first_words : (program : Program) (t w : ℕ) → length program.timers ≤ limits.TIMERS →
     slice_index (thread_words (saved program (open_model program) t) 0 0 0) w ≡ timed_word program (length program.timers) t w
 first_words program t w few = ap (λ (y : Saved). slice_index (thread_words y 0 0 0) w) (saved_open program t) ∙ open_words program t w few
 

@@ -8,6 +8,7 @@ pub mod Scans
 pub mod Follows
 pub mod Journals
 pub mod Values
+pub mod RightActs
 pub mod TaskRuns
 pub mod Outputs
 pub mod Picks
@@ -51,5 +52,7 @@ pub mod ReadCounts
 pub mod ReadStates
 pub mod ImagesStand
 pub mod ToldQueues
+pub mod BlockImages
 pub mod StatesImage
 pub mod Devices
+pub mod Loads

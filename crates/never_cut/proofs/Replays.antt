@@ -1,5 +1,6 @@
 -- What a replay keeps from entry to entry.
 use Rattle.never_cut.proofs.Common.{◌≡◌, ℕ, ◌+◌, ◌-◌, ◌^◌, ◌<◌, ◌≤◌, List, [], ◌∷◌, ◌++◌, length, take, get_or, sym, ◌∙◌, ap, subst, arith, take_all, take_more, Entry, Program, IsAccepted, Model, Readings, readings_of, Legal, effect, IsLegal, after, CanStart}
+use Rattle.ink_base.specs.declared.limits.TheConstants as limits
 use Rattle.never_cut.proofs.Journals.{after-append, IsLegal-append}
 use Rattle.never_cut.proofs.Starts.{GoesOn, goes_on_step, starts}
 
@@ -9,12 +10,12 @@ pub record Replays (program : Program) (readings : Readings) (first : Model) (en
   pub state : m ≡ after program readings first (take n entries)
   pub goes : GoesOn program readings (2 ^ 32 - 1 - n) m
 
-pub replays_none : (program : Program) (readings : Readings) (first : Model) (entries : List Entry) → ((j : ℕ) → length (readings_of readings j) ≤ 65535) → CanStart program readings first →
+pub replays_none : (program : Program) (readings : Readings) (first : Model) (entries : List Entry) → ((j : ℕ) → length (readings_of readings j) ≤ limits.READINGS) → CanStart program readings first →
     Replays program readings first entries 0 first
 replays_none program readings first entries few start = record { legal = tt; state = Rattle.std.proofs.Common.refl; goes = starts program readings first few start }
 
 pub replays_more : (program : Program) (readings : Readings) (first : Model) (entries : List Entry) (n : ℕ) (old new : Model) (d : Entry) → IsAccepted program →
-    ((j : ℕ) → length (readings_of readings j) ≤ 65535) → length entries < 2 ^ 32 → Replays program readings first entries n old → n < length entries →
+    ((j : ℕ) → length (readings_of readings j) ≤ limits.READINGS) → length entries < 2 ^ 32 → Replays program readings first entries n old → n < length entries →
     Legal program readings old (get_or entries n d) → new ≡ effect program readings old (get_or entries n d) → Replays program readings first entries (n + 1) new
 replays_more program readings first entries n old new d accepted few short replays inside may makes =
     let e : Entry = get_or entries n d in

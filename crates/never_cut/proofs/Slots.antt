@@ -1,5 +1,6 @@
 -- What the kernel finds in the slots of a queue.
 use Rattle.never_cut.proofs.Common.{◌≡◌, ◌≢◌, ℕ, ◌+◌, ◌-◌, ◌%◌, ◌^◌, ◌<◌, ◌≤◌, List, [], ◌∷◌, length, Option, Some, None, arith, ap, ◌∙◌, sym, inl, inr, subst, cases_lt, add-mod_right, Event, Program, Memory, Tail, slot_in, Empty, Full, slot_in-empty, queued_fits, slot_in-event_word, thread_def, source_thread, Model, ThreadModel, thread_of, queue_of, Readings, slots_of, StandsQueue, event_slot, event_at, published, IsQueued}
+use Rattle.ink_base.specs.declared.limits.TheConstants as limits
 use Rattle.push_core.specs.declared.slot.Slot as slot
 use Rattle.never_cut.specs.kept.Steps.{Background}
 
@@ -7,10 +8,10 @@ use Rattle.never_cut.specs.kept.Steps.{Background}
 pub record IsReadable (program : Program) (t places : ℕ) (slot : ℕ → ℕ) (tail : ℕ) (x : ThreadModel) : Type 0 where
   pub stands : StandsQueue places slot tail (queue_of x)
   pub some : 0 < places
-  pub few : places ≤ 32
+  pub few : places ≤ limits.QUEUE_PLACES
   pub small : published (queue_of x) < 2 ^ 20
   pub queued : (k : ℕ) → k < length x.held → IsQueued program t (event_at x.held k)
-  pub sources : length program.sources ≤ 16
+  pub sources : length program.sources ≤ limits.SOURCES
 
 pub readable : (program : Program) (readings : Readings) (words : Memory) (m : Model) (t : ℕ) → Background program readings words m → t < length program.threads →
     IsReadable program t (thread_def program t).queue (slots_of words t) (words (Tail t)) (thread_of m t)
@@ -37,7 +38,7 @@ pub free_slot : (program : Program) (t places : ℕ) (slot : ℕ → ℕ) (tail 
     published (queue_of x) ≤ s → s < x.released + places → slot_in (slot (s % places)) ≡ Some (Empty s)
 free_slot program t places slot tail s x h above below =
     let small : published (queue_of x) < 2 ^ 20 = h.small in
-    let few : places ≤ 32 = h.few in
+    let few : places ≤ limits.QUEUE_PLACES = h.few in
     ap slot_in (h.stands.empty_slots s above below) ∙ slot_in-empty s (omega arith)
 
 -- the slot of the first event

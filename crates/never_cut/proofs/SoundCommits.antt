@@ -3,7 +3,8 @@ use Rattle.never_cut.proofs.Common.{◌≡◌, ◌≢◌, ℕ, ◌+◌, ◌-◌,
 use Rattle.never_cut.specs.Commit.{committed}
 use Rattle.ink_base.specs.declared.event.Origin.TheVariants as origins
 use Rattle.never_cut.proofs.Outputs.{of_thread, outputs-own, outputs-other, length-stamped, stamped_values, later_stamps, more_stamps}
-use Rattle.never_cut.proofs.TaskRuns.{HasEventBits, IsFittingEnd, task_fits}
+use Rattle.never_cut.proofs.RightActs.{HasEventBits}
+use Rattle.never_cut.proofs.TaskRuns.{IsFittingEnd, task_fits}
 use Rattle.never_cut.proofs.SoundParts.{IsSoundAt, IsServedBy, ThreadSound, PipesSound, TimersSound, HasSoundParts, taken_in}
 use Rattle.never_cut.proofs.SoundSources.{sources_same}
 use Rattle.never_cut.proofs.SoundQueues.{thread_changes}

@@ -4,7 +4,8 @@ use Rattle.std.proofs.lemmas.List.FromFn.{get_or-enumerate_from, length-enumerat
 use Rattle.ink_base.specs.declared.event.Origin.TheVariants as origins
 use Rattle.never_cut.proofs.Threads.{kept-at}
 use Rattle.never_cut.proofs.Values.{last_below}
-use Rattle.never_cut.proofs.TaskRuns.{IsRightItem}
+use Rattle.never_cut.proofs.RightActs.{IsRightItem}
+use Rattle.never_cut.proofs.TaskRuns.{counted}
 use Rattle.never_cut.proofs.SoundParts.{IsSoundPipeAt, PipesSound, taken_in}
 
 abbrev items_in : List PipeModel → ℕ → ℕ
@@ -77,9 +78,6 @@ sent_taken (s ∷ sends) pipes q = sent_taken sends (with_item s pipes) q ∙ ke
 -- the pipes hold no more than their places, with what is still to be sent
 abbrev Fits : Program → List PipeModel → List Sent → Type 0
 Fits program pipes sends = (q : ℕ) → q < length program.pipes → items_in pipes q + sent_to q sends ≤ (pipe_def program q).places
-
-abbrev counted : Bool → ℕ
-counted b = cond b 1 0
 
 sent_to-cons : (q : ℕ) (s : Sent) (sends : List Sent) → sent_to q (s ∷ sends) ≡ counted (s.pipe.0 == q) + sent_to q sends
 sent_to-cons q s sends = sum_by-cons (λ (x : Sent). counted (x.pipe.0 == q)) s sends

@@ -1,5 +1,6 @@
 -- Every state that a legal journal of an accepted program reaches from a sound one is sound, and its positions fit their bits.
 use Rattle.never_cut.proofs.Common.{◌≡◌, ℕ, zero, suc, ◌^◌, ◌<◌, ◌≤◌, true, false, List, [], ◌∷◌, length, map, get_or, Some, None, refl, sym, ap, ◌∙◌, arith, subst, All, All-nil, get_or-map, length-map, length-replicate, ThreadId, Output, Entry, Push, Refuse, Skip, Tick, Scan, Look, Commit, Release, Program, ThreadDef, greatest_tail, IsAccepted, thread_def, pipe_def, no_thread_def, no_timer_def, source_thread, Model, ThreadModel, PipeModel, SourceModel, thread_of, queue_of, no_thread, no_pipe, no_timer, no_source, open_model, open_thread, open_pipe, open_timer, open_source, Readings, readings_of, Legal, effect, after, IsLegal, published, IsSound, IsSoundSource, unsettled_into, sources_in, AreShort, unsettled_bound}
+use Rattle.ink_base.specs.declared.limits.TheConstants as limits
 use Rattle.task_isa.specs.declared.program.PipeDef.{PipeDef}
 use Rattle.never_cut.proofs.SoundParts.{IsSoundAt, ThreadSound, IsSoundPipeAt, IsSoundTimerAt, HasSoundParts, parts_of, sound_of, taken_in}
 use Rattle.never_cut.proofs.SoundSources.{refuse_sound, skip_sound}
@@ -32,19 +33,19 @@ open_at [] t lt = absurd (omega arith)
 open_at (d ∷ defs) zero lt = refl
 open_at (d ∷ defs) (suc t) lt = open_at defs t (omega arith)
 
-open_source_at : (sources : List ThreadId) (i : ℕ) → get_or (map open_source sources) i no_source ≡ no_source
+pub open_source_at : (sources : List ThreadId) (i : ℕ) → get_or (map open_source sources) i no_source ≡ no_source
 open_source_at [] i = refl
 open_source_at (s ∷ sources) zero = refl
 open_source_at (s ∷ sources) (suc i) = open_source_at sources i
 
-open_thread_sound : (program : Program) (readings : Readings) (t : ℕ) → IsAccepted program → ((i : ℕ) → length (readings_of readings i) ≤ 65535) → t < length program.threads → ThreadSound program readings (open_model program) t
+open_thread_sound : (program : Program) (readings : Readings) (t : ℕ) → IsAccepted program → ((i : ℕ) → length (readings_of readings i) ≤ limits.READINGS) → t < length program.threads → ThreadSound program readings (open_model program) t
 open_thread_sound program readings t accepted short lt =
     subst (λ (z : ThreadModel). IsSoundAt program (taken_in (open_model program).pipes) t z (unsettled_into program readings (open_model program) t (length program.sources)) 0 0)
     (sym (open_at program.threads t lt))
     (record {
       positions =
           let few = accepted.counts.sources in
-          let bound = unsettled_bound (source_thread program) (readings_of readings) (sources_in (open_model program)) t (length program.sources) 65535 short in
+          let bound = unsettled_bound (source_thread program) (readings_of readings) (sources_in (open_model program)) t (length program.sources) limits.READINGS short in
           omega arith;
       queued = λ k less. absurd (omega arith);
       finished = λ is. absurd (let clash : false ≡ true = is in cc);
@@ -82,7 +83,7 @@ open_source_sound program readings i =
     }
 
 -- the state at the start is sound
-pub open_sound : (program : Program) (readings : Readings) → IsAccepted program → ((i : ℕ) → length (readings_of readings i) ≤ 65535) → IsSound program readings (open_model program)
+pub open_sound : (program : Program) (readings : Readings) → IsAccepted program → ((i : ℕ) → length (readings_of readings i) ≤ limits.READINGS) → IsSound program readings (open_model program)
 open_sound program readings accepted short =
     sound_of program readings (open_model program)
     (record {

@@ -3,7 +3,7 @@ use Rattle.never_cut.proofs.Common.{◌≡◌, ℕ, ◌+◌, ◌<◌, ◌≤◌,
 use Rattle.ink_base.specs.declared.event.Origin.TheVariants as origins
 use Rattle.task_isa.specs.declared.outcome.Outcome.TheVariants as outcomes
 use Rattle.never_cut.proofs.Values.{HaveBits}
-use Rattle.never_cut.proofs.TaskRuns.{IsRightOutcome}
+use Rattle.never_cut.proofs.RightActs.{IsRightOutcome}
 use Rattle.never_cut.proofs.SoundParts.{IsSoundAt, IsChainAt, IsServedBy}
 
 -- no more items were taken from the pipes that a thread reads

@@ -1,7 +1,7 @@
 -- The timers stay sound where a service of one begins and a task sets some.
 use Rattle.never_cut.proofs.Common.{◌≡◌, ℕ, suc, ◌+◌, ◌^◌, ◌<◌, ◌≤◌, ◌==◌, Bool, true, false, List, [], ◌∷◌, length, get_or, set, Option, Some, None, refl, sym, ap, ◌∙◌, arith, subst, inl, inr, length-set, get_or-set_other, All, if◌then◌else◌, cases_eq, get_or-set_at, Origin, Program, TimerSet, TimerModel, no_timer, next_due, moved_on, set_by, with_timers}
 use Rattle.ink_base.specs.declared.event.Origin.TheVariants as origins
-use Rattle.never_cut.proofs.TaskRuns.{IsRightSetting}
+use Rattle.never_cut.proofs.RightActs.{IsRightSetting}
 use Rattle.never_cut.proofs.SoundParts.{IsSoundTimerAt, TimersSound}
 
 pub moved_count : (o : Origin) (timers : List TimerModel) → length (moved_on o timers) ≡ length timers

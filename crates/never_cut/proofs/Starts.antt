@@ -1,5 +1,6 @@
 -- A state at which a run can begin has room for an entry, and keeps it; the state of the first image is one.
 use Rattle.never_cut.proofs.Common.{◌≡◌, ℕ, suc, ◌+◌, ◌-◌, ◌^◌, ◌<◌, ◌≤◌, Bool, true, false, List, [], ◌∷◌, length, Some, None, refl, sym, subst, arith, inl, inr, All, ForSome, cases_lt, get_or_past, All-nil, All-cons, Event, Origin, Entry, Push, Refuse, Skip, Tick, Scan, Look, Commit, Release, Program, IsAccepted, source_thread, Model, ThreadModel, thread_of, source_of, no_thread, no_source, open_model, with_thread, is_of_queue, Readings, readings_of, Legal, effect, fed_by, next_event, pushed, with_accepted, with_refused, with_skipped, after, IsLegal, IsSound, IsSoundSource, IsQueued, CanStart, EveryStateStarts, event_at, AreReadings, HasRoom, IsWithinThread, IsWithinSource, Lasts, LastsThread, is_scanning}
+use Rattle.ink_base.specs.declared.limits.TheConstants as limits
 use Rattle.ink_base.specs.declared.event.Origin.TheVariants as origins
 use Rattle.never_cut.proofs.Commits.{commit-sources}
 use Rattle.never_cut.proofs.Lasting.{lasts_step, open_lasts}
@@ -50,7 +51,7 @@ all_queued program t (e ∷ held) h =
     All-cons (λ e. is_of_queue e ≡ true) e held (queued_is program t e.value e.origin (h 0 (omega arith))) (all_queued program t held (λ k lt. h (suc k) (omega arith)))
 
 -- what sources may not pass
-source_within : (program : Program) (readings : Readings) (m : Model) (i : ℕ) → length m.sources ≡ length program.sources → ((j : ℕ) → length (readings_of readings j) ≤ 65535) →
+source_within : (program : Program) (readings : Readings) (m : Model) (i : ℕ) → length m.sources ≡ length program.sources → ((j : ℕ) → length (readings_of readings j) ≤ limits.READINGS) →
     SourcesSound program readings m → IsWithinSource (2 ^ 32 - 2) (source_of m i)
 source_within program readings m i count few h =
     elim (cases_lt i (length program.sources)) [
@@ -72,7 +73,7 @@ thread_within program left scanning x h held running = record {
 }
 
 -- a sound state whose counts have room has room for an entry
-pub room_at : (program : Program) (readings : Readings) (left : ℕ) (m : Model) → ((j : ℕ) → length (readings_of readings j) ≤ 65535) → IsSound program readings m → Lasts left m → HasRoom program m
+pub room_at : (program : Program) (readings : Readings) (left : ℕ) (m : Model) → ((j : ℕ) → length (readings_of readings j) ≤ limits.READINGS) → IsSound program readings m → Lasts left m → HasRoom program m
 room_at program readings left m few sound lasts = record {
   parts = record { threads = sound.shape.threads; pipes = sound.shape.pipes; timers = sound.shape.timers; sources = sound.shape.sources };
   clock = sound.clock;
@@ -105,7 +106,7 @@ pub record GoesOn (program : Program) (readings : Readings) (left : ℕ) (m : Mo
   pub sources : SourcesSound program readings m
 
 -- a legal entry takes up the room of one, and keeps the rest
-pub goes_on_step : (program : Program) (readings : Readings) (left : ℕ) (m : Model) (e : Entry) → IsAccepted program → ((j : ℕ) → length (readings_of readings j) ≤ 65535) →
+pub goes_on_step : (program : Program) (readings : Readings) (left : ℕ) (m : Model) (e : Entry) → IsAccepted program → ((j : ℕ) → length (readings_of readings j) ≤ limits.READINGS) →
     GoesOn program readings (left + 1) m → Legal program readings m e → GoesOn program readings left (effect program readings m e)
 goes_on_step program readings left m e accepted few h legal =
     let next : Model = effect program readings m e in
@@ -127,7 +128,7 @@ goes_on_step program readings left m e accepted few h legal =
     }
 
 -- a legal journal takes up the room of its entries
-pub goes_on_after : (program : Program) (readings : Readings) (left : ℕ) (m : Model) (journal : List Entry) → IsAccepted program → ((j : ℕ) → length (readings_of readings j) ≤ 65535) →
+pub goes_on_after : (program : Program) (readings : Readings) (left : ℕ) (m : Model) (journal : List Entry) → IsAccepted program → ((j : ℕ) → length (readings_of readings j) ≤ limits.READINGS) →
     GoesOn program readings (left + length journal) m → IsLegal program readings m journal → GoesOn program readings left (after program readings m journal)
 goes_on_after program readings left m [] accepted few h legal = subst (λ n. GoesOn program readings n m) (let e : left + 0 ≡ left = omega arith in e) h
 goes_on_after program readings left m (e ∷ journal) accepted few h legal =
@@ -136,12 +137,12 @@ goes_on_after program readings left m (e ∷ journal) accepted few h legal =
     (subst (λ n. GoesOn program readings n m) (let more : left + suc (length journal) ≡ left + length journal + 1 = omega arith in more) h) legal.0) legal.1
 
 -- a state at which a run can begin has all of it
-pub starts : (program : Program) (readings : Readings) (first : Model) → ((j : ℕ) → length (readings_of readings j) ≤ 65535) → CanStart program readings first →
+pub starts : (program : Program) (readings : Readings) (first : Model) → ((j : ℕ) → length (readings_of readings j) ≤ limits.READINGS) → CanStart program readings first →
     GoesOn program readings (2 ^ 32 - 1) first
 starts program readings first few h = record { room = room_at program readings (2 ^ 32 - 1) first few h.sound h.counts; lasts = h.counts; sources = h.sound.sources }
 
 -- the state of the first image
-pub open_starts : (program : Program) (readings : Readings) → IsAccepted program → ((j : ℕ) → length (readings_of readings j) ≤ 65535) → CanStart program readings (open_model program)
+pub open_starts : (program : Program) (readings : Readings) → IsAccepted program → ((j : ℕ) → length (readings_of readings j) ≤ limits.READINGS) → CanStart program readings (open_model program)
 open_starts program readings accepted few = record {
   sound = open_sound program readings accepted few;
   counts = open_lasts program (2 ^ 32 - 1) (omega arith);

@@ -1,6 +1,7 @@
 -- Words that a run can begin at: seven checks, in the order in which they are made. Each is told of one place after the other, the one that a reader names
 -- where the check fails there.
 use Rattle.std.specs.Prelude.{◌≡◌, ◌≢◌, ◌⊎◌, ℕ, ◌+◌, ◌-◌, ◌*◌, ◌%◌, ◌^◌, ◌<◌, ◌≤◌, ◌==◌, true, false, List, [], ◌∷◌, length, take}
+use Rattle.ink_base.specs.declared.limits.TheConstants as limits
 use Rattle.ink_base.specs.declared.event.Event.{Event}
 use Rattle.ink_base.specs.declared.event.Origin.{Origin}
 use Rattle.ink_base.specs.declared.event.Origin.TheVariants as origins
@@ -54,12 +55,12 @@ pub record IsBlockWord (program : Program) (words : Memory) (t w : ℕ) : Type 0
   pub origin : w ≡ header.origin → HasChain words t → (o : Origin) × (committed words t header.origin ≡ origin_word o) × IsChainOrigin program words t o
   pub value : w ≡ header.value → HasChain words t → IsChainValue (origin_of (committed words t header.origin)) (committed words t header.value)
   pub outputs : w ≡ header.outputs → committed words t header.outputs ≤ (thread_def program t).log
-  pub written : (q : ℕ) → q < 8 → w ≡ header.written q → writes_pipe program t q ≡ false → committed words t (header.written q) ≡ 0
-  pub taken : (q : ℕ) → q < 8 → w ≡ header.taken q → reads_pipe program t q ≡ false → committed words t (header.taken q) ≡ 0
-  pub due : (j : ℕ) → j < 8 → w ≡ header.due j → committed words t (header.due j) ≤ 2 ^ 48
-  pub period : (j : ℕ) → j < 8 → w ≡ header.period j → committed words t (header.period j) < 2 ^ 32
-  pub foreign_due : (j : ℕ) → j < 8 → w ≡ header.due j → owns_timer program t j ≡ false → committed words t (header.due j) ≡ 0
-  pub foreign_period : (j : ℕ) → j < 8 → w ≡ header.period j → owns_timer program t j ≡ false → committed words t (header.period j) ≡ 0
+  pub written : (q : ℕ) → q < limits.PIPES → w ≡ header.written q → writes_pipe program t q ≡ false → committed words t (header.written q) ≡ 0
+  pub taken : (q : ℕ) → q < limits.PIPES → w ≡ header.taken q → reads_pipe program t q ≡ false → committed words t (header.taken q) ≡ 0
+  pub due : (j : ℕ) → j < limits.TIMERS → w ≡ header.due j → committed words t (header.due j) ≤ 2 ^ 48
+  pub period : (j : ℕ) → j < limits.TIMERS → w ≡ header.period j → committed words t (header.period j) < 2 ^ 32
+  pub foreign_due : (j : ℕ) → j < limits.TIMERS → w ≡ header.due j → owns_timer program t j ≡ false → committed words t (header.due j) ≡ 0
+  pub foreign_period : (j : ℕ) → j < limits.TIMERS → w ≡ header.period j → owns_timer program t j ≡ false → committed words t (header.period j) ≡ 0
   pub unused : header.due 8 ≤ w → w < header.words → committed words t w ≡ 0
   pub state : header.words ≤ w → committed words t w < 2 ^ 32
   pub rest : header.state (thread_def program t).state ≤ w → committed words t w ≡ 0

@@ -1,6 +1,7 @@
 -- Which words the accesses of the kernel may find: the ranges of loaded words, by place.
 use Rattle.std.specs.Prelude.{◌≡◌, ◌≢◌, ℕ, ◌+◌, ◌-◌, ◌*◌, ◌%◌, ◌^◌, ◌<◌, ◌≤◌, Bool, true, false, length, Option, Some, None}
 use Rattle.std.specs.Option.{ForSome}
+use Rattle.ink_base.specs.declared.limits.TheConstants as limits
 use Rattle.ink_base.specs.declared.event.Event.{Event}
 use Rattle.ink_base.specs.declared.event.Origin.{Origin}
 use Rattle.ink_base.specs.declared.event.Origin.TheVariants as origins
@@ -10,7 +11,7 @@ use Rattle.fram_words.specs.Places.{Place, Code, Commit, Page, Log, Ring, Tail, 
 use Rattle.fram_words.specs.Header as header
 use Rattle.fram_words.specs.Held.{origin_word}
 use Rattle.push_core.specs.Slots.{slot_in}
-use Rattle.push_core.specs.Table.{greatest_tail}
+use Rattle.push_core.specs.Table.{greatest_tail, greatest_position}
 use Rattle.push_core.specs.declared.slot.Slot as slot
 use Rattle.push_core.specs.declared.slot.Slot.TheVariants as slots
 use Rattle.prog_check.specs.Lookup.{thread_def, pipe_def, timer_def, task_def, instr_at, source_thread}
@@ -20,10 +21,6 @@ use Rattle.ink_layout.specs.declared.pick.Pick.{Pick}
 -- the first number that no count and no stamp reaches
 abbrev pub no_count : ℕ
 no_count = 4294967295
-
--- the greatest position in a slot: one turn of 32 places less one behind the greatest tail
-abbrev pub greatest_position : ℕ
-greatest_position = 1048591
 
 -- an event of one of the thread's sources, of a pipe that it reads or of its own timer
 abbrev pub IsOwnOrigin : Program → (t : ℕ) → Origin → Type 0
@@ -77,8 +74,8 @@ pub record IsHeaderWord (program : Program) (loaded : Loaded) (t w word : ℕ) :
   pub outputs : w ≡ header.outputs → word ≤ (thread_def program t).log
   pub written : header.written 0 ≤ w → w ≤ header.written 7 → ForSome loaded.taken (λ taken. IsWrittenOf program (w - header.written 0) taken word)
   pub taken : header.taken 0 ≤ w → w ≤ header.taken 7 → word < no_count
-  pub due : (j : ℕ) → j < 8 → w ≡ header.due j → word ≤ 2 ^ 48
-  pub period : (j : ℕ) → j < 8 → w ≡ header.period j → word < 2 ^ 32
+  pub due : (j : ℕ) → j < limits.TIMERS → w ≡ header.due j → word ≤ 2 ^ 48
+  pub period : (j : ℕ) → j < limits.TIMERS → w ≡ header.period j → word < 2 ^ 32
   pub state : header.words ≤ w → word < 2 ^ 32
 
 -- The word is in the range of its place. A code word is read as the program's instruction; no word of a log or of SRC is loaded by the kernel.

@@ -18,8 +18,8 @@ use prog_check::Accepted;
 use sqlite_items::Items;
 use std::alloc::Global;
 
-/// The state of the never-cut kernel after these entries, fewer than 2^32, given one list of readings for each source, each with at most
-/// 65,535 of them. `Illegal` names the first entry that isn't legal in its place.
+/// The state of the never-cut kernel after these entries, fewer than 2^32, given one list of readings for each source, each with no
+/// more than a source can have. `Illegal` names the first entry that isn't legal in its place.
 pub fn replay(
     alloc: Global,
     program: &Accepted,

@@ -4,10 +4,10 @@ ghost use Rattle.never_cut.specs.Devices.{EveryDeviceTold};
 ghost use Rattle.never_cut.specs.Reached.{EveryEntryKeeps, EveryJournalTells, EveryOtherFollows, EveryPositionFits, EveryStateHasRoom, EveryStateSound, EveryStateStarts};
 
 /// What is known of the states that a legal journal reaches, for every accepted program. They are sound, and so is what one legal entry
-/// makes of a sound state. Positions of queues are at most 1,048,560. From a state at which a run can begin there is room for a further entry,
-/// so that an open replay can go on, and the journal tells what `replay_from` says of the lists that it accepts. Where the counts have room
-/// for a list and for one more replay behind it, a run can begin again at the state after it. A push, a refusal, a skip and a tick change
-/// only what the kernel leaves to others.
+/// makes of a sound state. Positions of queues are at most the greatest tail. From a state at which a run can begin there is room for a
+/// further entry, so that an open replay can go on, and the journal tells what `replay_from` says of the lists that it accepts. Where the
+/// counts have room for a list and for one more replay behind it, a run can begin again at the state after it. A push, a refusal, a skip
+/// and a tick change only what the kernel leaves to others.
 pub fn journals_keep()
     ensures sound { EveryStateSound }
     ensures step { EveryEntryKeeps }

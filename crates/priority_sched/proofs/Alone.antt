@@ -1,5 +1,6 @@
 -- A scan that finds words in the ranges of their places stays within its own.
 use Rattle.priority_sched.proofs.Common.{◌≡◌, ◌≢◌, ℕ, ◌+◌, ◌-◌, ◌*◌, ◌/◌, ◌%◌, ◌^◌, ◌<◌, ◌≤◌, length, Option, Some, None, arith, refl, ap, ◌∙◌, sym, inl, inr, subst, ◌==◌, nat_lt, nat_le, eqb-true, ne_eqb, lt-ltb, le-ltb, ForSome, cases_Bool, cases_eq, cases_lt, same_Some, ThreadId, TaskId, Event, Program, slot_in, IsAccepted, pipe_def, timer_def, Chain, Idle, ScanAt, Clock, Commit, Running, Finished, Origin, Value, First, Slot, Taken, Writer, Written, Item, Timer, Picked, Quiet, ScanMachine, next_below, priority_of, chain_pick, event_at, is_reader, is_owner, next_pipe, next_timer, scan_next, at_pipe, at_timer, after_finished, after_value, after_look, after_timer, scan_wants, scan_takes, IsScanRow, IsScan, origin_of-origin_word, running_of, origin_of, HasOriginBits}
+use Rattle.ink_base.specs.declared.limits.TheConstants as limits
 use Rattle.ink_base.specs.declared.event.Origin as origin
 use Rattle.ink_base.specs.declared.event.Origin.TheVariants as origins
 use Rattle.push_core.specs.Table.{greatest_tail}
@@ -9,17 +10,14 @@ use Rattle.never_cut.specs.Ranges.{IsOwnOrigin, IsTaskOf, IsSlotOf, IsAnswerTo, 
 use Rattle.priority_sched.specs.Reached.{scan_loaded, IsChainOf, IsRowOf, IsScanOf}
 use Rattle.fram_words.specs.Header as header
 use Rattle.priority_sched.proofs.Searches.{IsSearched, searched}
-
--- a word of a block by its page and its number there
-whole_word : (w : ℕ) → 8 * (w / 8) + w % 8 ≡ w
-whole_word w = omega arith
+use Rattle.fram_words.proofs.Addresses.{whole_word}
 
 -- of a program's pipe or timer there are at most eight
-few_pipes : (program : Program) (q : ℕ) → IsAccepted program → q < length program.pipes → q < 8
-few_pipes program q accepted known = let most : length program.pipes ≤ 8 = accepted.counts.pipes in omega arith
+few_pipes : (program : Program) (q : ℕ) → IsAccepted program → q < length program.pipes → q < limits.PIPES
+few_pipes program q accepted known = let most : length program.pipes ≤ limits.PIPES = accepted.counts.pipes in omega arith
 
-few_timers : (program : Program) (j : ℕ) → IsAccepted program → j < length program.timers → j < 8
-few_timers program j accepted known = let most : length program.timers ≤ 8 = accepted.counts.timers in omega arith
+few_timers : (program : Program) (j : ℕ) → IsAccepted program → j < length program.timers → j < limits.TIMERS
+few_timers program j accepted known = let most : length program.timers ≤ limits.TIMERS = accepted.counts.timers in omega arith
 
 -- what the registers have from the words before
 abbrev IsIn : Program → ScanMachine → Type 0
@@ -62,7 +60,7 @@ running_row program t word h =
 -- an event's numbers have the bits of its word
 has_bits : (program : Program) (t : ℕ) (o : origin.Origin) → IsAccepted program → IsOwnOrigin program t o → HasOriginBits o
 has_bits program t (origins.Source source count) accepted h =
-    let few : length program.sources ≤ 16 = accepted.counts.sources in
+    let few : length program.sources ≤ limits.SOURCES = accepted.counts.sources in
     let known : source.0 < length program.sources = h.0 in
     let low : count < 64 = h.2 in (omega arith, omega arith)
 has_bits program t (origins.Pipe pipe item) accepted h = let few = few_pipes program pipe.0 accepted h.0 in (omega arith, h.2)
@@ -129,7 +127,7 @@ module _ (program : Program) (thread : ThreadId) (time : ℕ) (accepted : IsAcce
 
   row_in : (at : ScanAt) (word : ℕ) → IsScanRow program at → IsRowOf program thread.0 at → IsAnswerTo program (scan_loaded time at) (scan_wants program thread.0 at) word →
       IsIn program (scan_takes program thread time at word)
-  row_in Clock word fits row h = to_next program thread word (next_below program 256) h
+  row_in Clock word fits row h = to_next program thread word (next_below program (limits.PRIORITY + 1)) h
   row_in Commit word fits row h = (early, tt)
   row_in (Running c) word fits row h = (early, running_row program thread.0 word (h.next refl))
   row_in (Finished c running) word fits row h = finished_in c word running row (h.finished refl)

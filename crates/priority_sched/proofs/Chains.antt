@@ -1,5 +1,6 @@
 -- The accesses that find a running chain.
 use Rattle.priority_sched.proofs.Common.{◌≡◌, ℕ, ◌+◌, ◌%◌, ◌^◌, ◌<◌, ◌≤◌, true, List, [], ◌∷◌, length, Option, Some, None, arith, refl, ap, ◌∙◌, sym, subst, ForSome, same_Some, ThreadId, TaskId, Event, Program, Memory, place_in, IsAccepted, thread_def, Model, thread_of, pipe_of, Readings, IsCalm, IsSound, IsChain, IsServed, IsQueued, Lasts, IsFirstHeld, Background, pending-running, Chain, Origin, Value, First, Picked, chain_pick, scan_at, after_value, KnowsChain, HasOrigin, ScanHolds, origin_of-origin_word, origin_of, HasOriginBits}
+use Rattle.ink_base.specs.declared.limits.TheConstants as limits
 use Rattle.ink_base.specs.declared.event.Origin as origin
 use Rattle.ink_base.specs.declared.event.Origin.TheVariants as origins
 use Rattle.fram_words.specs.Header as header
@@ -29,18 +30,18 @@ pub served_bits : (program : Program) (readings : Readings) (m : Model) (t : ℕ
     Lasts 0 m → t < length program.threads → IsServed program m t (record { origin = o; value = value }) → HasOriginBits o × (value < 2 ^ 32)
 served_bits program readings m t (origins.Source source count) value accepted sound few known h =
     let queued : IsQueued program t (record { origin = origins.Source source count; value = value }) = first_queued program readings m t _ sound known h.0 h.1 in
-    let sources : length program.sources ≤ 16 = accepted.counts.sources in
+    let sources : length program.sources ≤ limits.SOURCES = accepted.counts.sources in
     let is : source.0 < length program.sources = queued.0 in
     let bits : count < 64 = queued.2 in
     (((let lt : source.0 < 2 ^ 8 = omega arith in lt), (let lt : count < 2 ^ 8 = omega arith in lt)), queued.3)
 served_bits program readings m t (origins.Pipe pipe item) value accepted sound few known h =
-    let pipes : length program.pipes ≤ 8 = accepted.counts.pipes in
+    let pipes : length program.pipes ≤ limits.PIPES = accepted.counts.pipes in
     let is : pipe.0 < length program.pipes = h.0 in
     let taken : item + 1 ≡ (pipe_of m pipe.0).taken = h.2 in
     let low = few.taken pipe.0 in
     (((let lt : pipe.0 < 2 ^ 8 = omega arith in lt), (let lt : item < 2 ^ 32 = omega arith in lt)), h.3)
 served_bits program readings m t (origins.Timer timer deadline) value accepted sound few known h =
-    let timers : length program.timers ≤ 8 = accepted.counts.timers in
+    let timers : length program.timers ≤ limits.TIMERS = accepted.counts.timers in
     let is : timer.0 < length program.timers = h.0 in
     let low : value ≡ deadline % 2 ^ 32 = h.3 in
     (((let lt : timer.0 < 2 ^ 8 = omega arith in lt), h.2), (let lt : value < 2 ^ 32 = omega arith in lt))

@@ -10,10 +10,7 @@ use Rattle.never_cut.specs.kept.Picked.{IsLoaded}
 use Rattle.never_cut.proofs.Slots.{readable, first_slot, empty_slot}
 use Rattle.priority_sched.proofs.Looked.{looked-last, looked-other, looked-more}
 use Rattle.priority_sched.proofs.Nexts.{to_pipe}
-
--- a load that no entry is noted for
-pub load_kept : (program : Program) (readings : Readings) (words : Memory) (m : Model) (p : places.Place) → Background program readings words m → IsKept program readings words m (Load p) None
-load_kept program readings words m p b = record { legal = tt; allowed = tt; private = b.private; shared = b.shared }
+use Rattle.never_cut.proofs.Loads.{load_kept}
 
 -- what a load of the slot of position p keeps, where it shows this
 record LookStep (program : Program) (readings : Readings) (words : Memory) (m : Model) (thread : ThreadId) (time c p : ℕ) (found : Option Event) : Type 0 where

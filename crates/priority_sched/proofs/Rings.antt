@@ -1,5 +1,6 @@
 -- No word of a pipe's ring stands at or behind address 2 ^ 32.
 use Rattle.priority_sched.proofs.Common.{◌≡◌, ℕ, ◌+◌, ◌-◌, ◌^◌, ◌<◌, ◌≤◌, length, arith, slice_index, Program, Ring, pipe_def, IsAccepted}
+use Rattle.ink_base.specs.declared.limits.TheConstants as limits
 use Rattle.fram_words.specs.declared.layout.Layout.{Layout}
 use Rattle.fram_words.specs.Shape.{address}
 use Rattle.ink_layout.specs.Shape.{shape_of, words_of}
@@ -16,5 +17,5 @@ ring_fits program layout q accepted is within =
     let last : ℕ = (pipe_def program q).places - 1 in
     let at : layout_address layout (Ring q last) ≡ address (shape_of program) (Ring q last) = is.addresses (Ring q last) (within, omega arith) in
     let lt : address (shape_of program) (Ring q last) < words_of (shape_of program) = below program (Ring q last) (within, omega arith) in
-    let few : words_of (shape_of program) < 100000 = few_words program accepted in
+    let few : words_of (shape_of program) < limits.BOARD_WORDS = few_words program accepted in
     omega arith

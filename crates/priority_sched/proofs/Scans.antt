@@ -1,9 +1,11 @@
 -- The accesses of a scan.
 use Rattle.priority_sched.proofs.Common.{◌≡◌, ℕ, ◌+◌, ◌*◌, ◌<◌, ◌≤◌, [], length, Option, Some, None, arith, refl, ap, ◌∙◌, sym, ThreadId, TaskId, Program, Memory, Load, ring_index, place_in, pipe_def, Model, ScanModel, thread_of, Readings, IsCalm, flag, Background, IsKept, Lasts, with_scan, scan_private, scan_queues, running_word, finished_word, ScanAt, Clock, Commit, Running, Finished, Origin, Value, First, Slot, Taken, Writer, Written, Item, Timer, Picked, Quiet, ScanMachine, priority_of, scan_at, scan_begun, after_finished, writer_of, ScanHolds, ScanStep, running_of-next_word, running_of}
+use Rattle.ink_base.specs.declared.limits.TheConstants as limits
 use Rattle.fram_words.specs.Places as places
 use Rattle.fram_words.specs.Header as header
 use Rattle.priority_sched.proofs.Nexts.{goes_on}
-use Rattle.priority_sched.proofs.Looks.{load_kept, slot_step}
+use Rattle.priority_sched.proofs.Looks.{slot_step}
+use Rattle.never_cut.proofs.Loads.{load_kept}
 use Rattle.priority_sched.proofs.Chains.{origin_holds, value_holds, first_holds}
 use Rattle.priority_sched.proofs.Items.{taken_holds, writer_holds, written_holds, item_holds}
 use Rattle.priority_sched.proofs.Timers.{timer_holds}
@@ -28,11 +30,11 @@ clock_step program readings words m thread time b h =
         private = scan_private words program m begun b.private;
         shared = scan_queues words program m begun b.shared;
       };
-      holds = goes_on program words (with_scan m begun) thread (words places.Clock) 256 h.known h.calm (record {
+      holds = goes_on program words (with_scan m begun) thread (words places.Clock) (limits.PRIORITY + 1) h.known h.calm (record {
         scan = record { time = m.clock; looked = [] };
         scanned = refl;
         time_is = b.shared.clock;
-        passed = λ u within out. let def = b.accepted.threads u within in let small : priority_of program u ≤ 255 = def.priority in absurd (omega arith);
+        passed = λ u within out. let def = b.accepted.threads u within in let small : priority_of program u ≤ limits.PRIORITY = def.priority in absurd (omega arith);
         rest = λ u within low. refl;
       });
     }

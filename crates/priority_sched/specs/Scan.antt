@@ -1,5 +1,6 @@
 -- The access table of a scan: in each row one access, the row that follows, and what the access stands for.
 use Rattle.std.specs.Prelude.{ℕ, ◌+◌, ◌-◌, ◌*◌, ◌/◌, ◌%◌, ◌^◌, ◌<◌, ◌≤◌, ◌==◌, Bool, length, if◌then◌else◌, Option, Some, None}
+use Rattle.ink_base.specs.declared.limits.TheConstants as limits
 use Rattle.ink_base.specs.declared.ids.ThreadId.{ThreadId}
 use Rattle.ink_base.specs.declared.ids.TaskId.{TaskId}
 use Rattle.ink_base.specs.declared.ids.PipeId.{PipeId}
@@ -143,7 +144,7 @@ after_timer program thread time idle timer word =
 
 -- the registers after the access found this word
 abbrev pub scan_takes : Program → ThreadId → (time : ℕ) → ScanAt → (word : ℕ) → ScanMachine
-scan_takes program thread time Clock word = scan_next thread word (next_below program 256)
+scan_takes program thread time Clock word = scan_next thread word (next_below program (limits.PRIORITY + 1))
 scan_takes program thread time Commit word = scan_at thread time (Running word)
 scan_takes program thread time (Running c) word = scan_at thread time (Finished c (running_of word))
 scan_takes program thread time (Finished c running) word = after_finished thread time c word running

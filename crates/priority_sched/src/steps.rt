@@ -16,6 +16,7 @@ use crate::pipes::{next_pipe, next_timer};
 use crate::scan_at::ScanAt;
 use event_pipe::has_item;
 use fram_words::{read_next, read_origin};
+use ink_base::limits::PRIORITY;
 use ink_base::{Event, Origin, PipeId, TaskId, TimerId};
 use ink_layout::Plan;
 use persist_timer::is_due;
@@ -31,7 +32,7 @@ impl ScanMachine {
         match self.at {
             ScanAt::Clock => {
                 self.time = word;
-                self.go_below(plan, 256);
+                self.go_below(plan, PRIORITY as u32 + 1);
             }
             ScanAt::Commit => self.at = ScanAt::Running { commit_word: word },
             ScanAt::Running { commit_word } => self.after_running(plan, commit_word, word),

@@ -1,5 +1,6 @@
 -- The events of a queue: their numbers, and what their words read as.
 use Rattle.std.proofs.Common.{◌≡◌, ◌≢◌, ℕ, ◌%◌, ◌^◌, ◌<◌, ◌≤◌, List, [], ◌∷◌, ◌++◌, length, Some, refl, sym, ap, ◌∙◌, subst, arith}
+use Rattle.ink_base.specs.declared.limits.TheConstants as limits
 use Rattle.ink_base.specs.declared.event.Event.{Event}
 use Rattle.ink_base.specs.declared.event.Origin.{Origin}
 use Rattle.ink_base.specs.declared.event.Origin.TheVariants as origins
@@ -23,7 +24,7 @@ queued_numbers sources queue_of t e h = by_origin e.origin e.value h
     by_origin (origins.Pipe pipe item) value h = absurd h
     by_origin (origins.Timer timer deadline) value h = absurd h
 
-pub queued_fits : (sources : ℕ) (queue_of : ℕ → ℕ) (t position : ℕ) (e : Event) → sources ≤ 16 → position < 2 ^ 21 →
+pub queued_fits : (sources : ℕ) (queue_of : ℕ → ℕ) (t position : ℕ) (e : Event) → sources ≤ limits.SOURCES → position < 2 ^ 21 →
     IsQueued sources queue_of t e → FitsEvent position e
 queued_fits sources queue_of t position e few lt h =
     let n = queued_numbers sources queue_of t e h in

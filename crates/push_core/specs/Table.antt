@@ -1,5 +1,5 @@
 -- The access table of a source: in each row one access, and the row that follows.
-use Rattle.std.specs.Prelude.{◌≡◌, ◌≢◌, ℕ, ◌+◌, ◌*◌, ◌/◌, ◌%◌, ◌^◌, ◌<◌, ◌≤◌, ◌==◌, ◌&&◌, ◌||◌, Bool, true, false, List, length, slice_index, nat_lt, if◌then◌else◌, Option, Some, None}
+use Rattle.std.specs.Prelude.{◌≡◌, ◌≢◌, ℕ, ◌+◌, ◌-◌, ◌*◌, ◌/◌, ◌%◌, ◌^◌, ◌<◌, ◌≤◌, ◌==◌, ◌&&◌, ◌||◌, Bool, true, false, List, length, slice_index, nat_lt, if◌then◌else◌, Option, Some, None}
 use Rattle.ink_base.specs.declared.limits.TheConstants as limits
 use Rattle.ink_base.specs.declared.ids.SourceId.{SourceId}
 use Rattle.fram_words.specs.declared.access.Access.{Access}
@@ -147,18 +147,22 @@ pub record FindsOlder (places : ℕ) (stage : Stage) (word : ℕ) : Type 0 where
   pub finds : slot_in word ≡ Some (Full position source count value)
   pub older : position + places ≡ tail
 
--- the greatest tail that a queue comes to: that of 16 sources with 65,535 readings each
+-- the greatest tail that a queue comes to: that of all sources with all their readings
 abbrev pub greatest_tail : ℕ
-greatest_tail = 1048560
+greatest_tail = limits.SOURCES * limits.READINGS
 
--- from 1 to 32 places of addresses below 2 ^ 32, and one of 16 sources
+-- the greatest position in a slot: one turn of all places less one behind the greatest tail
+abbrev pub greatest_position : ℕ
+greatest_position = greatest_tail + limits.QUEUE_PLACES - 1
+
+-- the places are within the limit, at least one and of addresses below 2 ^ 32, and the number of the source is within its own
 pub record IsPort (port : Port) : Type 0 where
-  pub source : port.source.0 < 16
+  pub source : port.source.0 < limits.SOURCES
   pub some : 0 < port.queue.places
-  pub no_more : port.queue.places ≤ 32
+  pub no_more : port.queue.places ≤ limits.QUEUE_PLACES
   pub slots : port.queue.slots + port.queue.places ≤ 2 ^ 32
 
--- at most 65,535 readings
+-- no more readings than a source can have
 abbrev pub IsFew : List ℕ → Type 0
 IsFew readings = length readings ≤ limits.READINGS
 

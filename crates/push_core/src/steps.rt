@@ -1,5 +1,5 @@
 //! What a source sees in a word that it loaded, and the stage that follows.
-ghost use Rattle.std.specs.Prelude.{◌≡◌, ◌+◌, ◌≤◌, ◌<◌, ◌%◌, ◌^◌, ◌==◌, ◌&&◌, ◌||◌, if◌then◌else◌};
+ghost use Rattle.std.specs.Prelude.{◌≡◌, ◌+◌, ◌*◌, ◌≤◌, ◌<◌, ◌%◌, ◌^◌, ◌==◌, ◌&&◌, ◌||◌, if◌then◌else◌};
 ghost use Rattle.push_core.specs.Slots.{slot_in, empty_word};
 ghost use Rattle.push_core.specs.Table as table;
 ghost use Rattle.push_core.specs.declared.stage.Stage.TheVariants as stages;
@@ -7,6 +7,7 @@ ghost use Rattle.push_core.specs.declared.stage.Stage.TheVariants as stages;
 use crate::slot::{Slot, empty, read_slot};
 use crate::stage::Stage;
 use ink_base::SourceId;
+use ink_base::limits::READINGS;
 
 /// The word holds an event of the source that comes after this many of its accepted ones.
 pub(crate) fn shows_own(own: SourceId, accepted: u32, word: u64) -> bool
@@ -46,7 +47,7 @@ pub(crate) fn after_boot_slot(places: u8, slot: u8, seen: bool) -> Stage
 
 /// After the load of ACK: whether the next reading, if one is left, was published before the boot.
 pub(crate) fn after_ack(accepted: u32, is_left: bool, seen: bool, word: u64) -> Stage
-    requires { accepted ≤ 131070 }
+    requires { accepted ≤ 2 * READINGS }
     ensures { result ≡ table.after_ack accepted is_left seen word }
 {
     if is_left && (seen || word == (accepted as u64 + 1) % 64) {

@@ -1,5 +1,6 @@
 -- A board with one queue.
 use Rattle.queue_rows.proofs.Common.{◌≡◌, ℕ, zero, suc, ◌+◌, ◌<◌, ◌≤◌, List, [], ◌∷◌, ◌++◌, map, length, length-append, get_or, take, drop, slice_index, refl, sym, ap, ◌∙◌, subst, arith, All, QueueSet, SourceSeat, KernelSeat, released_of, places_of, queue_of, lay_of, view, kernel_view, ring_of, IsOfShape, AreNewSources, IsNewKernel, firsts, IsOneQueue, IsNew, IsAt}
+use Rattle.ink_base.specs.declared.limits.TheConstants as limits
 use mathlib.Core.Option.{some}
 use lib.ListN.{get_elem?}
 use Rattle.std.proofs.lemmas.List.{length-map, map-append}
@@ -32,16 +33,16 @@ one_queue_is queues threads places n a b = record {
 }
 
 module _ {lay : Lay} {places n : ℕ} (one : IsOneQueue lay places n) where
-  pub one_limits : 0 < places → places ≤ 32 → n ≤ 16 → IsLay lay
+  pub one_limits : 0 < places → places ≤ limits.QUEUE_PLACES → n ≤ limits.SOURCES → IsLay lay
   one_limits low high few = record {
     threads = omega (arith, ap length one.queues);
     sources = omega (arith, one.number);
     some = λ t lt. let here : t ≡ 0 = omega (arith, ap length one.queues) in omega (arith, ap (places_of lay) here, ap (λ (xs : List ℕ). slice_index xs 0) one.queues);
-    no_more = λ t. subst (λ (xs : List ℕ). slice_index xs t ≤ 32) (sym one.queues) (at_most t);
+    no_more = λ t. subst (λ (xs : List ℕ). slice_index xs t ≤ limits.QUEUE_PLACES) (sym one.queues) (at_most t);
     queues = λ i lt. omega (arith, one.same i, ap length one.queues);
   }
     where
-      at_most : (t : ℕ) → slice_index (places ∷ []) t ≤ 32
+      at_most : (t : ℕ) → slice_index (places ∷ []) t ≤ limits.QUEUE_PLACES
       at_most zero = high
       at_most (suc t) = omega arith
 

@@ -10,6 +10,7 @@ use Rattle.fram_words.proofs.Frames.{store-same}
 use Rattle.push_core.specs.declared.slot.Slot as slot
 use Rattle.push_core.specs.declared.slot.Slot.TheVariants as slots
 use Rattle.never_cut.proofs.Releases.{after_release, release_other, release_calm, release_private, release_queues}
+use Rattle.never_cut.proofs.Loads.{load_kept}
 
 -- what holds below a number and at it
 pub up_to : (P : ℕ → Type 0) (t : ℕ) → ((u : ℕ) → u < t → P u) → P t → (u : ℕ) → u ≤ t → P u
@@ -53,10 +54,6 @@ boot_begins program readings words m b = record {
   greatest_is = refl;
   knows = tt;
 }
-
--- a load that no entry is noted for
-load_kept : (program : Program) (readings : Readings) (words : Memory) (m : Model) (p : places.Place) → Background program readings words m → IsKept program readings words m (Load p) None
-load_kept program readings words m p b = record { legal = tt; allowed = tt; private = b.private; shared = b.shared }
 
 flag_zero : (b : Bool) → flag b ≡ 0 → b ≡ false
 flag_zero true e = absurd (omega arith)

@@ -7,3 +7,5 @@ mod images;
 mod moved;
 #[cfg(test)]
 mod reported;
+#[cfg(test)]
+mod told;

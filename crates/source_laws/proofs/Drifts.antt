@@ -1,5 +1,6 @@
 -- What a source knows stays true whatever the others do.
 use Rattle.source_laws.proofs.Common.{◌≡◌, inl, inr, ℕ, zero, suc, ◌+◌, ◌%◌, ◌<◌, ◌≤◌, Bool, [], ◌∷◌, length, drop, sym, ap, ◌∙◌, subst, arith, length-append, length-drop, one-add, get_or-drop, get_or_append_left, Stage, LoadSlots, LoadAck, LoadSlot, Publish, MoveTail, HelpTail, Event, Queue, published, event_at, no_event, IsNumber, IsFinishing, KeepsNumbers, with_event, without_first, with_finished, number_source, number_count, finishing_some, finishing_source, finishing_count, Near, KnowsAt, Boots, IsShown}
+use Rattle.ink_base.specs.declared.limits.TheConstants as limits
 use Rattle.source_laws.proofs.Numbers.{numbered_range, numbered_at, numbered_release_own}
 
 -- what a source sees after the others have changed TAIL, its ACK and its queue
@@ -55,7 +56,7 @@ module _ (i places : ℕ) (n : Near) where
   drift_finish = record { tail_up = omega arith; released_up = omega arith; published_up = omega arith; shown = λ a slot one h. h }
 
   -- the source's finished event is acknowledged
-  pub drift_ack : (ack count : ℕ) → IsFinishing i count n.queue → length n.queue.held ≤ 32 → ack ≡ (count + 1) % 64 → KeepsNumbers i n.src n.ack n.queue n.source → Drifts i places n n.tail ack n.queue
+  pub drift_ack : (ack count : ℕ) → IsFinishing i count n.queue → length n.queue.held ≤ limits.QUEUE_PLACES → ack ≡ (count + 1) % 64 → KeepsNumbers i n.src n.ack n.queue n.source → Drifts i places n n.tail ack n.queue
   drift_ack ack count f room is h =
       let c = numbered_release_own i n.queue.held h.gone n.source.accepted (finishing_some f) (finishing_source f) h.numbered in
       let r = numbered_range i n.queue.held h.gone n.source.accepted h.numbered in

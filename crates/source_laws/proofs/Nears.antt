@@ -1,5 +1,6 @@
 -- The part of a source through the steps of the others.
 use Rattle.source_laws.proofs.Common.{◌≡◌, inl, inr, ℕ, ◌+◌, ◌%◌, ◌≤◌, length, sym, ◌∙◌, subst, cases_eq, Row, Tail, Ack, Src, Event, Queue, Source, event_source, IsFinishing, KeepsNumbers, with_event, without_first, with_finished, finishing_some, finishing_source, Board, Near, State, near, SourceKept}
+use Rattle.ink_base.specs.declared.limits.TheConstants as limits
 use Rattle.source_laws.proofs.Sources.{source_push_other, source_finish, source_ack, source_release_own, source_release_other}
 use Rattle.source_laws.proofs.Drifts.{changed, Drifts, knows_drift, drift_tail, drift_push, drift_finish, drift_ack, drift_release}
 
@@ -26,7 +27,7 @@ module _ {i places readings : ℕ} {n : Near} {row : Row} (h : SourceKept i plac
   pub other_finish : SourceKept i places readings (record n { queue = with_finished n.queue }) row
   other_finish = drifted n.tail n.ack (with_finished n.queue) (source_finish h.stands) (drift_finish i places n)
 
-  pub own_acked : (ack count : ℕ) → IsFinishing i count n.queue → length n.queue.held ≤ 32 → ack ≡ (count + 1) % 64 → SourceKept i places readings (record n { ack = ack }) row
+  pub own_acked : (ack count : ℕ) → IsFinishing i count n.queue → length n.queue.held ≤ limits.QUEUE_PLACES → ack ≡ (count + 1) % 64 → SourceKept i places readings (record n { ack = ack }) row
   own_acked ack count f room is = drifted n.tail ack n.queue (source_ack h.stands ack count f is) (drift_ack i places n ack count f room is h.stands)
 
   pub any_release : (own count : ℕ) → IsFinishing own count n.queue → (own ≡ i → n.ack ≡ (count + 1) % 64) → SourceKept i places readings (record n { queue = without_first n.queue }) row

@@ -1,5 +1,6 @@
 -- What a source knows after each of its own accesses.
 use Rattle.source_laws.proofs.Common.{◌≡◌, ◌⊎◌, inl, inr, ℕ, ◌+◌, ◌/◌, ◌%◌, ◌^◌, ◌<◌, ◌≤◌, ◌==◌, ◌&&◌, ◌||◌, cond, nat_lt, Bool, true, false, length, refl, sym, ap, ◌∙◌, subst, arith, Some, None, Option, mod-lt, eqb-true, eq-eqb, ne_eqb, ltb-true, ltb-false, lt-ltb, true≢false, cases_lt, cases_eq, or_cases, or_left, or_right, and_parts, and_from, false≢true, empty_word, slot_in, Queue, published, event_at, event_source, event_count, event_word, event_slot, IsNumber, FitsEvent, StandsQueue, KeepsNumbers, slot_in-event_word, event_word-≢-empty_word, number_source, number_count, SlotIs, Holds, IsEmpty, slot_is, Near, src_word, shows_own, after_boot_slot, after_ack, after_slot, is_full_at, Stage, LoadSlots, LoadAck, LoadTail, LoadSlot, Publish, HelpTail, StoreSkip, StoreAccepted, KnowsAt, Boots, IsOrdered}
+use Rattle.ink_base.specs.declared.limits.TheConstants as limits
 use Rattle.ink_base.specs.declared.ids.SourceId.{SourceId}
 use Rattle.push_core.specs.declared.slot.Slot.{Slot}
 use Rattle.push_core.specs.declared.slot.Slot.TheVariants.{Empty, Full}
@@ -15,9 +16,9 @@ pub record Own (i places readings : ℕ) (slot : ℕ → ℕ) (v : Near) : Type 
   pub fits : (k : ℕ) → k < length v.queue.held → FitsEvent (v.queue.released + k) (event_at v.queue.held k)
   pub positions : v.queue.released + places < 2 ^ 21
   pub some : 0 < places
-  pub small : places ≤ 32
-  pub few : readings ≤ 65535
-  pub known : i < 16
+  pub small : places ≤ limits.QUEUE_PLACES
+  pub few : readings ≤ limits.READINGS
+  pub known : i < limits.SOURCES
 
 -- what the slot of a loaded tail shows: that it is the next position and free, the event one turn before, or that the position is passed
 data Look (places : ℕ) (slot : ℕ → ℕ) (tail : ℕ) (q : Queue) (p : ℕ) : Type 0 where

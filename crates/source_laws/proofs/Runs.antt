@@ -1,5 +1,6 @@
 -- The invariant holds from any words that stand on, as the first image's, and the words then stand for the never-cut kernel.
 use Rattle.source_laws.proofs.Common.{◌≡◌, ◌⊎◌, inl, inr, ℕ, zero, suc, ◌+◌, ◌/◌, ◌%◌, ◌^◌, ◌<◌, ◌≤◌, length, refl, sym, ap, ◌∙◌, subst, arith, mod-eq_of_lt, Queue, open_queue, published, event_at, StandsSource, KeepsNumbers, number_source, number_count, queue_same, unsettled_bound, Board, Near, State, near, slots_of, IsOrdered, IsWithin, Kept, IsFirst, IsStart, IsRun}
+use Rattle.ink_base.specs.declared.limits.TheConstants as limits
 use Rattle.fram_words.specs.Places as places
 use Rattle.source_laws.proofs.Sources.{stored_as, own_count, ack_behind, last_one}
 use Rattle.source_laws.proofs.Own.{Own}
@@ -19,7 +20,7 @@ start_first board x w h = record {
       }) (λ n. refl) (h.tails t) (h.queues t);
   events = λ t. record {
     events = λ k lt. absurd (let n = ap (λ (q : Queue). length q.held) (h.queues t) in omega arith);
-    positions = omega (arith, ap published (h.queues t), unsettled_bound board.queue_of board.readings x.model.source t board.shape.sources 65535 w.readings, w.sources);
+    positions = omega (arith, ap published (h.queues t), unsettled_bound board.queue_of board.readings x.model.source t board.shape.sources limits.READINGS w.readings, w.sources);
   };
   stands = λ i. subst (λ (n : Near). KeepsNumbers i n.src n.ack n.queue n.source) (sym (near_is board x i (h.tails (board.queue_of i)) (h.srcs i) (h.acks i) (h.queues (board.queue_of i)) (h.sources i)))
       (record { gone = 0; numbered = refl; ack_is = inl (omega arith); stored = (0, 0, omega arith, inl (refl, refl)) });
@@ -57,7 +58,7 @@ told {i} {places} {readings} {slot} {n} o = record {
   ];
 }
   where
-    few : length n.queue.held ≤ 32
+    few : length n.queue.held ≤ limits.QUEUE_PLACES
     few = omega (arith, o.queue.room, o.small)
 
     is : ((n.source.accepted ≡ n.src % 2 ^ 32) × (n.source.next ≡ n.src / 2 ^ 32)) ⊎ ((n.source.accepted ≡ n.src % 2 ^ 32 + 1) × (n.source.next ≡ n.src / 2 ^ 32 + 1))

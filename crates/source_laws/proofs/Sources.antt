@@ -1,5 +1,6 @@
 -- What a source's two words are after each step on it or on its queue, and what they tell.
 use Rattle.source_laws.proofs.Common.{◌≡◌, ◌⊎◌, inl, inr, ℕ, ◌+◌, ◌/◌, ◌%◌, ◌^◌, ◌<◌, ◌≤◌, length, drop, refl, sym, ap, ◌∙◌, subst, arith, cases_lt, src_word, Event, Queue, Source, event_at, event_source, event_count, HoldsNumber, Numbered, IsFinishing, Stored, KeepsNumbers, with_event, without_first, with_finished, with_accepted, finishing_some, finishing_source, finishing_count, finishing_push}
+use Rattle.ink_base.specs.declared.limits.TheConstants as limits
 use Rattle.source_laws.proofs.Numbers.{numbered_range, numbered_at, numbered_last, numbered_push_own, numbered_push_other, numbered_release_own, numbered_release_other}
 
 -- the two numbers of SRC
@@ -72,14 +73,14 @@ module _ {i src ack : ℕ} {q : Queue} {s : Source} (h : KeepsNumbers i src ack 
   }
 
   -- an own event with the count a is there only where it counts as accepted
-  pub own_count : (a j : ℕ) → length q.held ≤ 32 → j < length q.held → event_source (event_at q.held j) ≡ i → event_count (event_at q.held j) ≡ a % 64 → s.accepted ≡ a → ⊥
+  pub own_count : (a j : ℕ) → length q.held ≤ limits.QUEUE_PLACES → j < length q.held → event_source (event_at q.held j) ≡ i → event_count (event_at q.held j) ≡ a % 64 → s.accepted ≡ a → ⊥
   own_count a j room lt own count same =
       let t = numbered_at i q.held h.gone s.accepted j h.numbered lt own in
       let r = numbered_range i q.held h.gone s.accepted h.numbered in
       omega (arith, t.1, t.2, t.3, r.0, r.1)
 
   -- ACK isn't one more than the accepted number
-  pub ack_behind : (a : ℕ) → length q.held ≤ 32 → ack ≡ (a + 1) % 64 → s.accepted ≡ a → ⊥
+  pub ack_behind : (a : ℕ) → length q.held ≤ limits.QUEUE_PLACES → ack ≡ (a + 1) % 64 → s.accepted ≡ a → ⊥
   ack_behind a room is same =
       let r = numbered_range i q.held h.gone s.accepted h.numbered in
       elim h.ack_is [

@@ -8,13 +8,13 @@ use Rattle.source_laws.specs.Model.{places_for, Board, Near, Model}
 use Rattle.push_core.specs.Table.{greatest_tail}
 use Rattle.push_core.specs.declared.row.Row.{Row}
 
--- at most 16 sources, 65,535 readings of each, 32 bits in a reading, and from 1 to 32 places in a source's queue
+-- sources, their readings and the places of queues are within their limits, a reading has 32 bits, and a source's queue has a place
 pub record IsWithin (board : Board) : Type 0 where
-  pub sources : board.shape.sources ≤ 16
+  pub sources : board.shape.sources ≤ limits.SOURCES
   pub readings : (i : ℕ) → length (board.readings i) ≤ limits.READINGS
   pub values : (i k : ℕ) → slice_index (board.readings i) k < 2 ^ 32
   pub places : (i : ℕ) → i < board.shape.sources → 0 < places_for board i
-  pub no_more : (t : ℕ) → board.places t ≤ 32
+  pub no_more : (t : ℕ) → board.places t ≤ limits.QUEUE_PLACES
 
 -- the words, what they stand for, and where each source is in its table
 pub record State : Type 0 where

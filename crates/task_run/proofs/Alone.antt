@@ -1,82 +1,30 @@
 -- The service of a pick that finds words in the ranges of their places stays within its own.
-use Rattle.task_run.proofs.Common.{◌≡◌, ℕ, ◌+◌, ◌-◌, ◌*◌, ◌/◌, ◌%◌, ◌^◌, ◌<◌, ◌≤◌, false, length, Option, Some, None, arith, refl, sym, inl, inr, subst, lt-ltb, le-ltb, false≢true, cases_Bool, cases_lt, TaskId, Origin, FitsOrigin, Buffer, is_dirty, after_copy, no_writes, Act, Sets, Goes, Loads, Saves, Puts, Sends, Arms, Stops, Continues, Ends, Traps, Program, Cpu, number_of, advance, advance_with, decoded, IsAccepted, thread_def, pipe_def, task_def, instr_at, first_task, Pick, Ending, Execution, Sending, Phase, WriteFirst, WriteOrigin, WriteValue, WriteTaken, ReadPeriod, WriteDue, Resume, Fetch, ReadState, WriteState, ReadCount, StoreLog, WriteCount, LoadReader, LoadTaken, ReadWritten, StoreItem, WriteWritten, WriteArmed, WritePeriod, WriteStopped, WriteNext, WriteFinished, ReadTotal, WriteTotal, WriteStamp, StoreCommit, StoreAck, StoreEmpty, Over, TaskMachine, total_word, Action, Put, Get, Make, action, want, take, after, after_action, after_act, after_fetch, after_event, after_value, after_written, after_next, after_commit, release_phase, end_phase, phase_again, first_phase, running_task, begin, proceed, stepped, trap, instr_of, cpu_of, given_by, execution_of, is_late, is_over, FitsExecution, FitsChain, FitsPhase, FitsWord, IsOfPipe, IsOfTimer, task_loaded, IsPhaseOf, IsServiceOf}
+use Rattle.task_run.proofs.Common.{◌≡◌, ℕ, ◌+◌, ◌-◌, ◌/◌, ◌%◌, ◌^◌, ◌<◌, ◌≤◌, false, length, Option, Some, None, arith, refl, sym, inl, inr, subst, lt-ltb, le-ltb, false≢true, cases_Bool, cases_lt, TaskId, Origin, FitsOrigin, Buffer, is_dirty, after_copy, no_writes, Act, Sets, Goes, Loads, Saves, Puts, Sends, Arms, Stops, Continues, Ends, Traps, Program, Cpu, number_of, advance, advance_with, decoded, IsAccepted, thread_def, pipe_def, task_def, instr_at, first_task, Pick, Ending, Execution, Sending, Phase, WriteFirst, WriteOrigin, WriteValue, WriteTaken, ReadPeriod, WriteDue, Resume, Fetch, ReadState, WriteState, ReadCount, StoreLog, WriteCount, LoadReader, LoadTaken, ReadWritten, StoreItem, WriteWritten, WriteArmed, WritePeriod, WriteStopped, WriteNext, WriteFinished, ReadTotal, WriteTotal, WriteStamp, StoreCommit, StoreAck, StoreEmpty, Over, TaskMachine, Action, Put, Get, Make, action, want, take, after, after_action, after_act, after_fetch, after_event, after_value, after_written, after_next, after_commit, release_phase, end_phase, phase_again, first_phase, running_task, begin, proceed, stepped, trap, instr_of, cpu_of, given_by, execution_of, is_late, is_over, FitsExecution, FitsChain, FitsPhase, IsOfPipe, IsOfTimer, task_loaded, IsPhaseOf, IsServiceOf}
+use Rattle.ink_base.specs.declared.limits.TheConstants as limits
+use Rattle.push_core.specs.Table.{greatest_tail}
 use Rattle.task_run.specs.Reached.{GoesOn}
 use Rattle.ink_base.specs.declared.event.Origin.TheVariants as origins
-use Rattle.fram_words.specs.Header as header
 use Rattle.event_pipe.specs.Ring.{has_room}
 use Rattle.never_cut.specs.Ranges.{IsOwnOrigin, IsDuePick, IsPickOf, IsAnswerTo}
 use Rattle.task_run.specs.declared.ending.Ending.TheVariants as endings
 use Rattle.task_run.proofs.Accesses.{machine_at}
 use Rattle.task_run.proofs.Acts.{Lands, task_lands}
 use Rattle.task_run.proofs.Limits.{execution_fits}
-use Rattle.task_run.proofs.Words.{total_low, total_high}
-
--- a word of a block by its page and its number there
-whole_word : (w : ℕ) → 8 * (w / 8) + w % 8 ≡ w
-whole_word w = omega arith
-
--- a word in the range of its place is one that the phase takes
-pub task_word : (program : Program) (pick : Pick) (stamp : ℕ) (b : Buffer) (ending : Ending) (e : Execution) (phase : Phase) (word : ℕ) → IsAccepted program →
-    FitsPhase program (machine_at pick stamp b ending e phase) phase →
-    IsAnswerTo program (task_loaded (machine_at pick stamp b ending e phase)) (want program (machine_at pick stamp b ending e phase)) word → FitsWord program phase word
-task_word program pick stamp b ending e ReadPeriod word accepted fits h = h.period (number_of pick.event.origin) fits.0 (whole_word (header.period (number_of pick.event.origin)))
-task_word program pick stamp b ending e (LoadTaken s commit) word accepted fits h =
-    let most : length program.pipes ≤ 8 = accepted.counts.pipes in
-    let known : s.pipe < length program.pipes = fits.1 in
-    let low : word < 4294967295 = h.taken (rw (whole_word (header.taken s.pipe)) (omega arith)) (rw (whole_word (header.taken s.pipe)) (omega arith)) in omega arith
-task_word program pick stamp b ending e (ReadWritten s taken) word accepted fits h =
-    let most : length program.pipes ≤ 8 = accepted.counts.pipes in
-    let known : s.pipe < length program.pipes = fits.0.1 in
-    let at : 8 * (header.written s.pipe / 8) + header.written s.pipe % 8 - header.written 0 ≡ s.pipe = omega arith in
-    subst (λ q. (taken ≤ word) × (word ≤ taken + (pipe_def program q).places)) at
-    (h.written (rw (whole_word (header.written s.pipe)) (omega arith)) (rw (whole_word (header.written s.pipe)) (omega arith)) taken refl)
-task_word program pick stamp b ending e ReadTotal word accepted fits h =
-    let low : header.served ≤ total_word ending = total_low ending in
-    let high : total_word ending ≤ header.expired = total_high ending in
-    let small : word < 4294967295 = h.totals (rw (whole_word (total_word ending)) low) (rw (whole_word (total_word ending)) high) in omega arith
-task_word program pick stamp b ending e _ word accepted fits h = tt
-
--- the range of a phase reads the pick and the execution alone
-any_buffer : (program : Program) (pick : Pick) (stamp : ℕ) (b c : Buffer) (ending : Ending) (e : Execution) (phase : Phase) →
-    FitsPhase program (machine_at pick stamp b ending e phase) phase × IsPhaseOf program (machine_at pick stamp b ending e phase) phase →
-    FitsPhase program (machine_at pick stamp c ending e phase) phase × IsPhaseOf program (machine_at pick stamp c ending e phase) phase
-any_buffer program pick stamp b c ending e WriteFirst h = h
-any_buffer program pick stamp b c ending e WriteOrigin h = h
-any_buffer program pick stamp b c ending e WriteValue h = h
-any_buffer program pick stamp b c ending e WriteTaken h = h
-any_buffer program pick stamp b c ending e ReadPeriod h = h
-any_buffer program pick stamp b c ending e (WriteDue w) h = h
-any_buffer program pick stamp b c ending e Resume h = h
-any_buffer program pick stamp b c ending e Fetch h = h
-any_buffer program pick stamp b c ending e (ReadState a n) h = h
-any_buffer program pick stamp b c ending e (WriteState n v) h = h
-any_buffer program pick stamp b c ending e (StoreLog n v) h = h
-any_buffer program pick stamp b c ending e (WriteCount n) h = h
-any_buffer program pick stamp b c ending e (LoadReader s) h = h
-any_buffer program pick stamp b c ending e (LoadTaken s commit) h = h
-any_buffer program pick stamp b c ending e (ReadWritten s taken) h = h
-any_buffer program pick stamp b c ending e (StoreItem s written) h = h
-any_buffer program pick stamp b c ending e (WriteWritten s written) h = h
-any_buffer program pick stamp b c ending e (WriteArmed timer delay period) h = h
-any_buffer program pick stamp b c ending e (WritePeriod timer period) h = h
-any_buffer program pick stamp b c ending e (WriteStopped timer) h = h
-any_buffer program pick stamp b c ending e (StoreAck source count) h = h
-any_buffer program pick stamp b c ending e Over h = h
-any_buffer program pick stamp b c ending e _ h = h
+use Rattle.task_run.proofs.TaskWords.{task_word, any_buffer}
 
 -- the number of an event's pipe or timer
-pipe_few : (program : Program) (t : ℕ) (o : Origin) → IsAccepted program → IsOfPipe o → IsOwnOrigin program t o → number_of o < 8
+pipe_few : (program : Program) (t : ℕ) (o : Origin) → IsAccepted program → IsOfPipe o → IsOwnOrigin program t o → number_of o < limits.PIPES
 pipe_few program t (origins.Source source count) accepted of own = absurd of
 pipe_few program t (origins.Pipe pipe item) accepted of own =
-    let most : length program.pipes ≤ 8 = accepted.counts.pipes in
+    let most : length program.pipes ≤ limits.PIPES = accepted.counts.pipes in
     let known : pipe.0 < length program.pipes = own.0 in omega arith
 pipe_few program t (origins.Timer timer deadline) accepted of own = absurd of
 
-timer_few : (program : Program) (t : ℕ) (o : Origin) → IsAccepted program → IsOfTimer o → IsOwnOrigin program t o → number_of o < 8
+timer_few : (program : Program) (t : ℕ) (o : Origin) → IsAccepted program → IsOfTimer o → IsOwnOrigin program t o → number_of o < limits.TIMERS
 timer_few program t (origins.Source source count) accepted of own = absurd of
 timer_few program t (origins.Pipe pipe item) accepted of own = absurd of
 timer_few program t (origins.Timer timer deadline) accepted of own =
-    let most : length program.timers ≤ 8 = accepted.counts.timers in
+    let most : length program.timers ≤ limits.TIMERS = accepted.counts.timers in
     let known : timer.0 < length program.timers = own.0 in omega arith
 
 timer_due : (pick : Pick) (o : Origin) → IsOfTimer o → IsDuePick pick o → (1 ≤ pick.due_word) × (pick.due_word ≤ 2 ^ 48)
@@ -192,7 +140,7 @@ module _ (program : Program) (pick : Pick) (stamp : ℕ) (accepted : IsAccepted 
   written_serves : (b : Buffer) (ending : Ending) (e : Execution) (phase : Phase) (s : Sending) (taken word : ℕ) → GoesOn program e → s.pipe < length program.pipes →
       taken < 2 ^ 32 → word ≤ taken + (pipe_def program s.pipe).places → Serves (after_written program (machine_at pick stamp b ending e phase) s taken word)
   written_serves b ending e phase s taken word goes known small within =
-      let places : (pipe_def program s.pipe).places ≤ 64 = (accepted.pipes s.pipe known).places in
+      let places : (pipe_def program s.pipe).places ≤ limits.PIPE_PLACES = (accepted.pipes s.pipe known).places in
       elim (cases_Bool (has_room (pipe_def program s.pipe).places word taken)) [
         | inl room ↦ rw room (refl, refl, λ live. (((goes.0, known), omega arith), goes))
         | inr full ↦ rw full (proceed_serves b ending e phase (advance_with (cpu_of e) s.register 0) goes.0 goes.1)
@@ -260,8 +208,8 @@ module _ (program : Program) (pick : Pick) (stamp : ℕ) (accepted : IsAccepted 
   serves_fits : (r : TaskMachine) → Serves r → is_over r.phase ≡ false → IsServiceOf program r
   serves_fits r serves more =
       let ready = serves.2 more in
-      let queue : (thread_def program pick.thread.0).queue ≤ 32 = (accepted.threads pick.thread.0 own.known).queue in
-      let here : pick.position ≤ 1048560 = own.position in
+      let queue : (thread_def program pick.thread.0).queue ≤ limits.QUEUE_PLACES = (accepted.threads pick.thread.0 own.known).queue in
+      let here : pick.position ≤ greatest_tail = own.position in
       record {
         pick = subst (IsPickOf program) (sym serves.0) own;
         fits = record {

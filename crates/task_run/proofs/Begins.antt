@@ -1,6 +1,6 @@
 -- A scan's pick tells what a task's first registers have to.
 use Rattle.task_run.proofs.Common.{◌≡◌, ℕ, [], refl, ap, Option, Some, None, TaskId, Memory, Program, Pick, Model, Saved, saved, StandsThread, Readings, IsPicked, Background, no_pages, WriteFirst, Resume, begin, first_phase, execution_of, running_task, Knows, KnowsAt, EveryPickBegins}
-use Rattle.task_run.specs.kept.Serving.{Begins as Starts}
+use Rattle.task_run.specs.kept.Served.{Begins as Starts}
 use Rattle.task_run.proofs.Accesses.{Holding, unwritten, serving_at}
 use Rattle.task_run.proofs.Traps.{unsent, chain_words}
 use Rattle.task_run.proofs.Resumes.{late-idle}

@@ -58,7 +58,8 @@ pub use Rattle.thread_state.specs.Pages.{Buffer, Buffered, Copying, IsCopied, Is
 pub use Rattle.task_run.specs.Endings.{next_by, total_word}
 pub use Rattle.task_run.specs.Fits.{FitsChain, FitsExecution, FitsPhase, FitsTask, FitsWord}
 pub use Rattle.task_run.specs.Knows.{EveryPickBegins, EveryTaskCommits, EveryTaskFits, EveryTaskOutlasts, KeepsAll, Knows, KnowsAt, Releasing, SameCommitted}
-pub use Rattle.task_run.specs.Machine.{Action, Get, Make, Put, action, after, after_act, after_action, after_commit, after_event, after_fetch, after_next, after_value, after_written, at_phase, begin, cpu_of, device, end_phase, execution_of, first_phase, given_by, instr_of, is_late, is_over, phase_again, proceed, release_phase, running_task, stepped, take, trap, want}
+pub use Rattle.task_run.specs.Actions.{Action, Get, Make, Put, action, cpu_of, device, execution_of, given_by, is_late}
+pub use Rattle.task_run.specs.Machine.{after, after_act, after_action, after_commit, after_event, after_fetch, after_next, after_value, after_written, at_phase, begin, end_phase, first_phase, instr_of, is_over, phase_again, proceed, release_phase, running_task, stepped, take, trap, want}
 pub use Rattle.task_run.specs.Reached.{IsPhaseOf, IsServiceOf, task_loaded}
 pub use Rattle.task_run.specs.declared.ending.Ending.{Ending}
 pub use Rattle.task_run.specs.declared.execution.Execution.{Execution}
@@ -66,4 +67,6 @@ pub use Rattle.task_run.specs.declared.machine.TaskMachine.{TaskMachine}
 pub use Rattle.task_run.specs.declared.phase.Phase.{Phase}
 pub use Rattle.task_run.specs.declared.phase.Phase.TheVariants.{Fetch, LoadReader, LoadTaken, Over, ReadCount, ReadPeriod, ReadState, ReadTotal, ReadWritten, Resume, StoreAck, StoreCommit, StoreEmpty, StoreItem, StoreLog, WriteArmed, WriteCount, WriteDue, WriteFinished, WriteFirst, WriteNext, WriteOrigin, WritePeriod, WriteStamp, WriteState, WriteStopped, WriteTaken, WriteTotal, WriteValue, WriteWritten}
 pub use Rattle.task_run.specs.declared.sending.Sending.{Sending}
-pub use Rattle.task_run.specs.kept.Serving.{Again, AreSent, Assignment, Before, Beginning, Finishing, IsEnd, IsEndOf, IsLast, IsOfPipe, IsOfTimer, IsReady, IsTrap, Progress, RunningIn, SendingTo, Serving, Told, assignment, begun, changed, concluded, config_of, consumed, counted, due_with, effects_of, end_of, finish, finished_by, period_by, period_with, rested, result, rings_of, served, told, total_of, whole, with_due, with_effects, with_total, worked, worked_in, written_with}
+pub use Rattle.task_run.specs.kept.Served.{Again, AreSent, Assignment, Before, IsEnd, IsEndOf, IsLast, IsTrap, assignment, begun, changed, concluded, config_of, consumed, counted, due_with, effects_of, end_of, finish, finished_by, period_by, period_with, rested, result, rings_of, served, total_of, whole, with_effects, with_total, worked, written_with}
+pub use Rattle.task_run.specs.kept.Progress.{Beginning, Finishing, IsOfPipe, IsOfTimer, RunningIn, SendingTo, Told, with_due, worked_in}
+pub use Rattle.task_run.specs.kept.Serving.{IsReady, Progress, Serving, told}

@@ -1,5 +1,6 @@
 -- The accesses that consume the event of a pipe or a timer.
 use Rattle.task_run.proofs.Common.{◌≡◌, ℕ, ◌+◌, ◌*◌, ◌<◌, arith, refl, ap, ◌∙◌, sym, subst, Memory, store, origin_word, place_in, working, working_mask, Buffer, Origin, after_service, Program, IsAccepted, Pick, Model, Readings, IsSound, Saved, saved, Begins, picked_begins, Ending, Execution, WriteTaken, ReadPeriod, WriteDue, TaskMachine, after_event, changed, with_due, Serving}
+use Rattle.ink_base.specs.declared.limits.TheConstants as limits
 use Rattle.fram_words.specs.Header as header
 use Rattle.ink_base.specs.declared.event.Origin.TheVariants as origins
 use Rattle.task_run.proofs.Accesses.{machine_at, Steps, Holding, put_step, holding_load, holding_put, serving_at}
@@ -26,7 +27,7 @@ module _ (program : Program) (readings : Readings) (m : Model) (words : Memory) 
       let r : TaskMachine = machine_at q stamp b ending e WriteTaken in
       let p = h.progress.0 in
       let first : Begins program m q.thread.0 h.picked.scan.time q.event = picked_begins program readings words m q sound h.picked p.idle in
-      let small : pipe.0 < 8 = let known = first.0 in let few = accepted.counts.pipes in omega arith in
+      let small : pipe.0 < limits.PIPES = let known = first.0 in let few = accepted.counts.pipes in omega arith in
       let loaded : q.taken ≡ item = h.picked.loaded p.idle in
       let y : Saved = record (h.y) { taken = changed h.y.taken pipe.0 (q.taken + 1) } in
       let n : Memory = store words (place_in q.thread.0 (working_mask b) (header.taken pipe.0)) (q.taken + 1) in
@@ -53,7 +54,7 @@ module _ (program : Program) (readings : Readings) (m : Model) (words : Memory) 
       let r : TaskMachine = machine_at q stamp b ending e ReadPeriod in
       let p = h.progress.0 in
       let first : Begins program m q.thread.0 h.picked.scan.time q.event = picked_begins program readings words m q sound h.picked p.idle in
-      let small : timer.0 < 8 = let known = first.0 in let few = accepted.counts.timers in omega arith in
+      let small : timer.0 < limits.TIMERS = let known = first.0 in let few = accepted.counts.timers in omega arith in
       let word : ℕ = working words q.thread.0 b (header.period timer.0) in
       let is : word ≡ (saved program m q.thread.0).period timer.0 =
       h.buffered.words (header.period timer.0) ∙ (words-of_period h.y h.s h.o h.v timer.0 small ∙ ap (λ (z : Saved). z.period timer.0) p.is)
@@ -73,7 +74,7 @@ module _ (program : Program) (readings : Readings) (m : Model) (words : Memory) 
       let r : TaskMachine = machine_at q stamp b ending e (WriteDue w) in
       let p = h.progress.0 in
       let first : Begins program m q.thread.0 h.picked.scan.time q.event = picked_begins program readings words m q sound h.picked p.idle in
-      let small : timer.0 < 8 = let known = first.0 in let few = accepted.counts.timers in omega arith in
+      let small : timer.0 < limits.TIMERS = let known = first.0 in let few = accepted.counts.timers in omega arith in
       let loaded : q.due_word ≡ deadline + 1 = h.picked.loaded p.idle in
       let n : Memory = store words (place_in q.thread.0 (working_mask b) (header.due timer.0)) w in
       let y : Saved = with_due h.y timer.0 w in

@@ -1,6 +1,6 @@
 -- The accesses that write the event's words, and the start of its task.
 use Rattle.task_run.proofs.Common.{◌≡◌, ℕ, false, List, [], refl, ap, ◌∙◌, sym, subst, arith, None, Memory, store, origin_word, place_in, working_mask, Buffer, Origin, Program, Sent, first_task, IsAccepted, Pick, Model, Readings, IsSound, Saved, saved, Ending, Execution, Phase, WriteFirst, WriteOrigin, WriteValue, WriteTaken, ReadPeriod, Fetch, WriteNext, TaskMachine, after_event, after_value, execution_of, assignment, begun, consumed, Before, Again, Beginning, IsOfPipe, IsOfTimer, told, Serving}
-use Rattle.task_run.specs.kept.Serving.{Begins as Starts}
+use Rattle.task_run.specs.kept.Served.{Begins as Starts}
 use Rattle.ink_base.specs.declared.event.Origin.TheVariants as origins
 use Rattle.task_run.specs.declared.ending.Ending.TheVariants as endings
 use Rattle.task_run.proofs.Accesses.{machine_at, Steps, Holding, put_step, holding_put, serving_at}

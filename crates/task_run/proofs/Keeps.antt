@@ -1,6 +1,6 @@
 -- Each access of a task keeps what the words stand for, and what the registers tell.
 use Rattle.task_run.proofs.Common.{◌≡◌, ℕ, ◌+◌, ◌*◌, ◌/◌, ◌^◌, Bool, false, length, arith, refl, ap, sym, inl, inr, subst, if◌then◌else◌, false≢true, cases_Bool, Place, Code, Log, Memory, Load, Store, origin_word, ring_index, Buffer, IsUnderWay, put_access, Program, sent_to, pipe_def, Pick, Model, Readings, Saved, saved, Background, armed, Ending, Execution, Sending, Phase, WriteFirst, WriteOrigin, WriteValue, WriteTaken, ReadPeriod, WriteDue, Resume, Fetch, ReadState, WriteState, ReadCount, StoreLog, WriteCount, LoadReader, LoadTaken, ReadWritten, StoreItem, WriteWritten, WriteArmed, WritePeriod, WriteStopped, WriteNext, WriteFinished, ReadTotal, WriteTotal, WriteStamp, StoreCommit, StoreAck, StoreEmpty, Over, TaskMachine, next_by, total_word, want, is_over, device, told, IsReady, Serving, KnowsAt, KeepsAll, EveryTaskCommits}
-use Rattle.task_run.specs.Machine as machine
+use Rattle.task_run.specs.Actions as actions
 use Rattle.task_run.proofs.Accesses.{machine_at}
 use Rattle.task_run.proofs.Kept.{log_step_private, log_step_kernel, ring_step_private, ring_step_kernel}
 use Rattle.task_run.proofs.Events.{step-first, step-origin, step-value}
@@ -29,10 +29,10 @@ module _ (program : Program) (readings : Readings) (words : Memory) (m : Model) 
   resume_calmly : Serving program words m (machine_at pick stamp b ending e Resume) → IsCalmly program words m (want program (machine_at pick stamp b ending e Resume))
   resume_calmly h =
       let r : TaskMachine = machine_at pick stamp b ending e Resume in
-      let late : Bool = machine.is_late program r in
+      let late : Bool = actions.is_late program r in
       elim (cases_Bool late) [
         | inl is ↦
-            let under = subst (λ (a : machine.Action). IsReady words pick.thread.0 b a) (ap (λ c. if c then machine.Put 1 0 else machine.fetch r) is) h.ready in
+            let under = subst (λ (a : actions.Action). IsReady words pick.thread.0 b a) (ap (λ c. if c then actions.Put 1 0 else actions.fetch r) is) h.ready in
             rw is (writes Resume 1 0 h under)
         | inr is ↦ rw is (loads (Code e.task.0 e.at))
       ]
@@ -58,7 +58,7 @@ module _ (program : Program) (readings : Readings) (words : Memory) (m : Model) 
 
   -- an item behind those of its pipe
   item_calmly : (s : Sending) (written : ℕ) → Serving program words m (machine_at pick stamp b ending e (StoreItem s written)) →
-      IsCalmly program words m (machine.sending program s written)
+      IsCalmly program words m (actions.sending program s written)
   item_calmly s written h =
       let r : TaskMachine = machine_at pick stamp b ending e (StoreItem s written) in
       let q : ℕ = s.pipe in

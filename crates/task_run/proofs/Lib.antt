@@ -32,4 +32,5 @@ pub mod States
 pub mod TimerWords
 pub mod Traps
 pub mod Words
+pub mod TaskWords
 pub mod Alone

@@ -1,11 +1,12 @@
 -- The numbers of offsets, positions, events, delays, chains and totals are in their ranges.
 use Rattle.task_run.proofs.Common.{◌≡◌, ℕ, ◌+◌, ◌^◌, ◌<◌, ◌≤◌, Option, Some, None, length, arith, refl, ap, subst, eq-eqb, lt-ltb, get_or-le-sum_by, Event, Memory, Task, thread_def, task_def, no_task_def, code_len, IsAccepted, IsQueued, IsSound, published, event_at, IsFinishing, Background, Execution, FitsExecution, FitsChain, ForSome, TaskId, Origin, Program, number_of, Pick, Model, thread_of, queue_of, Readings, IsLoaded, Saved, period_word, IsServable, Ending, FitsOrigin, Assignment, IsOfPipe, IsOfTimer, begun, rested, finished_by, total_of, worked}
+use Rattle.ink_base.specs.declared.limits.TheConstants as limits
 use Rattle.ink_base.specs.declared.event.Origin.TheVariants as origins
 use Rattle.task_run.specs.declared.ending.Ending.TheVariants as endings
 use Rattle.task_run.proofs.Traps.{Keeps, begun-keeps}
 
 -- a task has at most as many instructions as all tasks
-code_small : (program : Program) (x : ℕ) → IsAccepted program → x < length program.tasks → length (task_def program x).code ≤ 4096
+code_small : (program : Program) (x : ℕ) → IsAccepted program → x < length program.tasks → length (task_def program x).code ≤ limits.INSTRUCTIONS
 code_small program x accepted known =
     let few = accepted.counts.code in
     let one : length (task_def program x).code ≤ code_len program = get_or-le-sum_by (λ (task : Task). length task.code) program.tasks x no_task_def known in
@@ -15,8 +16,8 @@ code_small program x accepted known =
 pub execution_fits : (program : Program) (x : ℕ) (e : Execution) → IsAccepted program → x < length program.tasks → e.task.0 ≡ x → e.at < length (task_def program x).code →
     e.executed < (task_def program x).limit → FitsExecution program e
 execution_fits program x e accepted known task inside left =
-    let small : length (task_def program x).code ≤ 4096 = code_small program x accepted known in
-    let limit : (task_def program x).limit ≤ 4096 = (accepted.tasks x known).limit in
+    let small : length (task_def program x).code ≤ limits.INSTRUCTIONS = code_small program x accepted known in
+    let limit : (task_def program x).limit ≤ limits.TASK_LIMIT = (accepted.tasks x known).limit in
     record {
       task = rw task known;
       inside = rw task inside;
@@ -30,7 +31,7 @@ pub position_fits : (program : Program) (readings : Readings) (words : Memory) (
     p ≡ (thread_of m t).released → p + (thread_def program t).queue < 2 ^ 21
 position_fits program readings words m t p g known is =
     let small : published (queue_of (thread_of m t)) < 2 ^ 20 = g.shared.small t known in
-    let queue : (thread_def program t).queue ≤ 32 = (g.accepted.threads t known).queue in
+    let queue : (thread_def program t).queue ≤ limits.QUEUE_PLACES = (g.accepted.threads t known).queue in
     omega arith
 
 -- a source whose event is finished is one of the program
@@ -48,14 +49,14 @@ origin_fits program t (origins.Source source count) value h = tt
 origin_fits program t (origins.Pipe pipe item) value h = tt
 origin_fits program t (origins.Timer timer deadline) value h = h.2
 
-pub pipe_fits : (program : Program) (t : ℕ) (pick : Pick) (o : Origin) (value : ℕ) → length program.pipes ≤ 8 → IsOfPipe o →
-    IsServable program t (record { origin = o; value = value }) → IsLoaded pick (record { origin = o; value = value }) → (number_of o < 8) × (pick.taken < 2 ^ 32)
+pub pipe_fits : (program : Program) (t : ℕ) (pick : Pick) (o : Origin) (value : ℕ) → length program.pipes ≤ limits.PIPES → IsOfPipe o →
+    IsServable program t (record { origin = o; value = value }) → IsLoaded pick (record { origin = o; value = value }) → (number_of o < limits.PIPES) × (pick.taken < 2 ^ 32)
 pipe_fits program t pick (origins.Source source count) value few of h loaded = absurd of
 pipe_fits program t pick (origins.Pipe pipe item) value few of h loaded = let known = h.0 in let small = h.2 in (omega arith, omega arith)
 pipe_fits program t pick (origins.Timer timer deadline) value few of h loaded = absurd of
 
-pub timer_known : (program : Program) (t : ℕ) (o : Origin) (value : ℕ) → length program.timers ≤ 8 → IsOfTimer o →
-    IsServable program t (record { origin = o; value = value }) → number_of o < 8
+pub timer_known : (program : Program) (t : ℕ) (o : Origin) (value : ℕ) → length program.timers ≤ limits.TIMERS → IsOfTimer o →
+    IsServable program t (record { origin = o; value = value }) → number_of o < limits.TIMERS
 timer_known program t (origins.Source source count) value few of h = absurd of
 timer_known program t (origins.Pipe pipe item) value few of h = absurd of
 timer_known program t (origins.Timer timer deadline) value few of h = let known = h.0 in omega arith

@@ -1,5 +1,6 @@
 -- The numbers of a task's registers are in their ranges.
 use Rattle.task_run.proofs.Common.{◌≡◌, ℕ, ◌+◌, ◌*◌, ◌-◌, ◌^◌, ◌<◌, ◌≤◌, false, List, length, get_or, arith, refl, ap, ◌∙◌, sym, subst, Some, false≢true, TaskId, Memory, answer, Buffer, working, Program, Sent, number_of, sent_to, thread_def, pipe_def, Pick, Model, thread_of, pipe_of, task_at, rooms, Readings, Saved, saved, IsPicked, Background, IsServable, picked_event, Ending, Execution, Sending, Phase, WriteFirst, WriteOrigin, WriteValue, WriteTaken, ReadPeriod, WriteDue, Resume, Fetch, ReadState, WriteState, ReadCount, StoreLog, WriteCount, LoadReader, LoadTaken, ReadWritten, StoreItem, WriteWritten, WriteArmed, WritePeriod, WriteStopped, WriteNext, WriteFinished, ReadTotal, WriteTotal, WriteStamp, StoreCommit, StoreAck, StoreEmpty, Over, total_word, want, is_over, execution_of, FitsExecution, FitsPhase, FitsWord, FitsTask, assignment, total_of, told, RunningIn, SendingTo, Serving, Releasing, KnowsAt, EveryTaskFits}
+use Rattle.ink_base.specs.declared.limits.TheConstants as limits
 use Rattle.fram_words.specs.Header as header
 use Rattle.never_cut.specs.Within.{Lasts}
 use Rattle.task_run.proofs.Words.{words-of_total, words-of_written, words-of_period}
@@ -67,7 +68,7 @@ module _ (program : Program) (readings : Readings) (words : Memory) (m : Model) 
   written_fits : (q written : ℕ) → q < length program.pipes → written < (pipe_of m q).taken + (pipe_def program q).places → written < 2 ^ 33
   written_fits q written known room =
       let r = few.taken q in
-      let places : (pipe_def program q).places ≤ 64 = (g.accepted.pipes q known).places in
+      let places : (pipe_def program q).places ≤ limits.PIPE_PLACES = (g.accepted.pipes q known).places in
       omega arith
 
   -- the numbers of each phase
@@ -135,7 +136,7 @@ module _ (program : Program) (readings : Readings) (words : Memory) (m : Model) 
   period_small : Serving program words m (machine_at pick stamp b ending e ReadPeriod) → working words pick.thread.0 b (27 + 2 * number_of pick.event.origin) < 2 ^ 32
   period_small h =
       let j : ℕ = number_of pick.event.origin in
-      let known : j < 8 = timer_known program pick.thread.0 pick.event.origin pick.event.value g.accepted.counts.timers h.progress.3 (servable h.picked) in
+      let known : j < limits.TIMERS = timer_known program pick.thread.0 pick.event.origin pick.event.value g.accepted.counts.timers h.progress.3 (servable h.picked) in
       let word : working words pick.thread.0 b (header.period j) ≡ (saved program m pick.thread.0).period j =
       h.buffered.words (header.period j) ∙ (words-of_period h.y h.s h.o h.v j known ∙ ap (λ (z : Saved). z.period j) h.progress.0.is)
       in
@@ -164,7 +165,7 @@ module _ (program : Program) (readings : Readings) (words : Memory) (m : Model) 
       let to = h.progress.0 in
       let run = to.executing.running in
       let sent = has_sent program m (machine_at pick stamp b ending e (ReadWritten s taken)) h.y h.sends h.s h.o h.v q g.sound.shape run to.pipe to.writer in
-      let pipes : length program.pipes ≤ 8 = g.accepted.counts.pipes in
+      let pipes : length program.pipes ≤ limits.PIPES = g.accepted.counts.pipes in
       let known : q < length program.pipes = to.pipe in
       let word : working words pick.thread.0 b (header.written q) ≡ h.y.written q = h.buffered.words (header.written q) ∙ words-of_written h.y h.s h.o h.v q (omega arith) in
       let written : h.y.written q ≡ (pipe_of m q).taken + length (pipe_of m q).items + sent_to q run.effects.sends = sent.written in

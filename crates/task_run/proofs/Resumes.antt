@@ -2,6 +2,7 @@
 use Rattle.task_run.proofs.Common.{◌≡◌, ℕ, Bool, true, false, refl, ap, ◌∙◌, sym, subst, inl, inr, arith, Option, Some, None, ◌&&◌, if◌then◌else◌, ForSome, cases_Bool, TaskId, Code, Memory, store, answer, place_in, working_mask, Buffer, put_access, Program, Effects, IsAccepted, thread_def, Pick, Model, ThreadModel, thread_of, is_running, is_overdue, Readings, IsSound, Saved, saved, StandsPrivate, IsPicked, Ending, Execution, Resume, WriteNext, TaskMachine, Assignment, assignment, rested, Finishing, worked_in, IsEnd, IsReady, told, RunningIn, Serving}
 use Rattle.task_run.specs.declared.ending.Ending.TheVariants as endings
 use Rattle.task_run.specs.Machine as machine
+use Rattle.task_run.specs.Actions as actions
 use Rattle.task_run.proofs.Accesses.{machine_at, Steps, put_step, holding_load, holding_put}
 use Rattle.task_run.proofs.Instrs.{fetch_serving}
 use Rattle.task_run.proofs.Words.{words-rested}
@@ -10,7 +11,7 @@ use Rattle.task_run.proofs.Starts.{task-running, start_running}
 use Rattle.task_run.proofs.Ends.{rested_serving}
 
 -- the registers tell of a running chain whether it is overdue
-overdue_by : (expires : Option ℕ) (task : TaskId) (first time : ℕ) → machine.is_overdue expires (Some task) first time ≡ is_overdue expires first time
+overdue_by : (expires : Option ℕ) (task : TaskId) (first time : ℕ) → actions.is_overdue expires (Some task) first time ≡ is_overdue expires first time
 overdue_by None task first time = refl
 overdue_by (Some ticks) task first time = refl
 
@@ -29,11 +30,11 @@ late-idle program words m pick p idle =
 
 -- the registers tell whether a running chain has expired
 pub late-running : (program : Program) (words : Memory) (m : Model) (pick : Pick) (task : TaskId) → IsPicked program words m pick → pick.running ≡ Some task →
-    machine.is_overdue (thread_def program pick.thread.0).expires pick.running pick.first pick.time ≡ (assignment program m pick).late
+    actions.is_overdue (thread_def program pick.thread.0).expires pick.running pick.first pick.time ≡ (assignment program m pick).late
 late-running program words m pick task p runs =
     let x : ThreadModel = thread_of m pick.thread.0 in
     let expires : Option ℕ = (thread_def program pick.thread.0).expires in
-    ap (λ r. machine.is_overdue expires r pick.first pick.time) runs
+    ap (λ r. actions.is_overdue expires r pick.first pick.time) runs
     ∙ (overdue_by expires task pick.first pick.time
     ∙ (overdue_first expires pick.first x.first pick.time (p.first task runs)
     ∙ sym (ap (λ b. b && is_overdue expires x.first pick.time) (running-is x task (sym p.running ∙ runs)))))
@@ -52,7 +53,7 @@ module _ (program : Program) (readings : Readings) (m : Model) (words : Memory) 
   r = machine_at pick stamp b ending e Resume
 
   abbrev late : Bool
-  late = machine.is_late program r
+  late = actions.is_late program r
 
   late_same : late ≡ (assignment program m pick).late
   late_same = late-running program words m pick h.progress.0 h.picked h.progress.1
@@ -95,7 +96,7 @@ module _ (program : Program) (readings : Readings) (m : Model) (words : Memory) 
 
   resume_early : late ≡ false → Steps program m words r
   resume_early is =
-      let fresh = subst (λ (a : machine.Action). IsReady words pick.thread.0 b a) (ap (λ c. if c then machine.Put 1 0 else machine.fetch r) is) h.ready in
+      let fresh = subst (λ (a : actions.Action). IsReady words pick.thread.0 b a) (ap (λ c. if c then actions.Put 1 0 else actions.fetch r) is) h.ready in
       let word : ℕ = words (Code e.task.0 e.at) in
       rw is
       (subst (λ c. Serving program words m (machine.after_resume program r c word)) (sym is)

@@ -1,5 +1,6 @@
 -- The accesses that send an item.
 use Rattle.task_run.proofs.Common.{◌≡◌, ℕ, ◌+◌, ◌-◌, ◌/◌, ◌<◌, ◌≤◌, true, [], ◌∷◌, ◌++◌, length, arith, refl, ap, ◌∙◌, sym, inl, inr, subst, ltb-true, cases_Bool, Commit, Ring, Memory, store, perform, store-same, store-other, ring_index, place_in, working, working_mask, Buffer, is_dirty-true, Sends, Program, Sent, Cpu, Effects, advance_with, sent_to, has_room, pipe_def, IsAccepted, Pick, Model, PipeModel, pipe_of, with_sends, HasShape, Saved, saved, StandsPrivate, Ending, Execution, Sending, LoadReader, LoadTaken, ReadWritten, StoreItem, WriteWritten, TaskMachine, want, after_written, proceed, cpu_of, assignment, begun, with_effects, changed, rings_of, Told, told, Serving}
+use Rattle.ink_base.specs.declared.limits.TheConstants as limits
 use Rattle.fram_words.specs.Header as header
 use Rattle.event_pipe.specs.Ring as by_counts
 use Rattle.task_run.proofs.Accesses.{machine_at, Steps, picked_at, put_step, holding_load, holding_put, serving_at}
@@ -13,7 +14,7 @@ use Rattle.task_run.proofs.Rooms.{taken_of, has_sent, room_is, sent_count, room_
 pub taken_found : (program : Program) (m : Model) (words : Memory) (q commit : ℕ) → IsAccepted program → StandsPrivate words program m → q < length program.pipes →
     (let reader = (pipe_def program q).reader.0 in commit ≡ words (Commit reader) → words (place_in reader commit (header.taken q)) ≡ (pipe_of m q).taken)
 taken_found program m words q commit accepted stands known is =
-    let few : length program.pipes ≤ 8 = accepted.counts.pipes in
+    let few : length program.pipes ≤ limits.PIPES = accepted.counts.pipes in
     let reader : ℕ = (pipe_def program q).reader.0 in
     let x = stands.threads reader (accepted.pipes q known).reader in
     ap (λ c. words (place_in reader c (header.taken q))) is
@@ -67,7 +68,7 @@ module _ (program : Program) (m : Model) (words : Memory) (pick : Pick) (stamp :
       Serving program words m (machine_at pick stamp b ending e (ReadWritten s taken)) → Steps program m words (machine_at pick stamp b ending e (ReadWritten s taken))
   step-read_written s taken accepted stands shape h =
       let known : s.pipe < length program.pipes = h.progress.0.pipe in
-      let few : length program.pipes ≤ 8 = accepted.counts.pipes in
+      let few : length program.pipes ≤ limits.PIPES = accepted.counts.pipes in
       let found : working words pick.thread.0 b (header.written s.pipe) ≡ h.y.written s.pipe =
       h.buffered.words (header.written s.pipe) ∙ words-of_written h.y h.s h.o h.v s.pipe (omega arith)
       in
@@ -113,7 +114,7 @@ module _ (program : Program) (m : Model) (words : Memory) (pick : Pick) (stamp :
       let to = h.progress.0.sending in
       let g = to.executing.running in
       let sent = has_sent program m r h.y h.sends h.s h.o h.v q shape g to.pipe to.writer in
-      let few : length program.pipes ≤ 8 = accepted.counts.pipes in
+      let few : length program.pipes ≤ limits.PIPES = accepted.counts.pipes in
       let known : q < length program.pipes = to.pipe in
       let item : Sent = record { pipe = record { 0 = q }; value = s.value } in
       let y : Saved = record (h.y) { written = changed h.y.written q (written + 1) } in

@@ -1,5 +1,6 @@
 -- The accesses that arm and stop a timer.
 use Rattle.task_run.proofs.Common.{◌≡◌, ℕ, ◌+◌, ◌*◌, ◌/◌, ◌<◌, ◌≤◌, List, [], ◌∷◌, ◌++◌, length, arith, refl, ap, ◌∙◌, sym, Some, None, Memory, store, perform, due_word, place_in, working_mask, Buffer, is_dirty-true, Arms, Stops, Program, TimerSet, Cpu, Effects, advance, IsAccepted, Pick, Model, HasShape, Saved, StandsPrivate, Ending, Execution, WriteArmed, WritePeriod, WriteStopped, TaskMachine, want, proceed, cpu_of, changed, due_with, period_by, period_with, with_due, with_effects, begun, Told, told, Serving, armed}
+use Rattle.ink_base.specs.declared.limits.TheConstants as limits
 use Rattle.fram_words.specs.Header as header
 use Rattle.task_run.proofs.Accesses.{machine_at, Steps, put_step, holding_put, serving_at}
 use Rattle.task_run.proofs.Traps.{proceed_serving}
@@ -30,7 +31,7 @@ module _ (program : Program) (m : Model) (words : Memory) (pick : Pick) (stamp :
   step-write_armed timer delay period h =
       let r : TaskMachine = machine_at pick stamp b ending e (WriteArmed timer delay period) in
       let y : Saved = with_due h.y timer (armed pick.time delay) in
-      let few : length program.timers ≤ 8 = accepted.counts.timers in
+      let few : length program.timers ≤ limits.TIMERS = accepted.counts.timers in
       let known : timer < length program.timers = h.progress.known in
       put_step program m words r (header.due timer) (armed pick.time delay) (machine_at pick stamp b ending e (WritePeriod timer period)) h (omega arith) (λ c. refl) λ dirty fresh.
       serving_at program m (store words (place_in pick.thread.0 (working_mask b) (header.due timer)) (armed pick.time delay)) r e (WritePeriod timer period) y h.sends h.s h.o h.v
@@ -52,7 +53,7 @@ module _ (program : Program) (m : Model) (words : Memory) (pick : Pick) (stamp :
       in
       let p : Told = told program m r half.before h.sends h.s h.o h.v in
       let effects : Effects = record (g.effects) { timers = g.effects.timers ++ s ∷ [] } in
-      let few : length program.timers ≤ 8 = accepted.counts.timers in
+      let few : length program.timers ≤ limits.TIMERS = accepted.counts.timers in
       let known : timer < length program.timers = arming.known in
       let next : Cpu = advance (cpu_of e) in
       put_step program m words r (header.period timer) period (proceed program r next) h (omega arith) (λ c. refl) λ dirty fresh.
@@ -73,7 +74,7 @@ module _ (program : Program) (m : Model) (words : Memory) (pick : Pick) (stamp :
       let y : Saved = with_due h.y timer 0 in
       let p : Told = told program m r h.y h.sends h.s h.o h.v in
       let effects : Effects = record (g.effects) { timers = g.effects.timers ++ s ∷ [] } in
-      let few : length program.timers ≤ 8 = accepted.counts.timers in
+      let few : length program.timers ≤ limits.TIMERS = accepted.counts.timers in
       let known : timer < length program.timers = h.progress.1 in
       let next : Cpu = advance (cpu_of e) in
       put_step program m words r (header.due timer) 0 (proceed program r next) h (omega arith) (λ c. refl) λ dirty fresh.

@@ -1,5 +1,6 @@
 -- Writes and reads of the words of a thread's block.
 use Rattle.task_run.proofs.Common.{◌≡◌, ℕ, zero, suc, ◌+◌, ◌*◌, ◌-◌, ◌<◌, ◌≤◌, List, [], ◌∷◌, ◌++◌, length, get_or, set, arith, refl, ap, ◌∙◌, sym, inl, inr, eq-eqb, ne_eqb, get_or-set_same, get_or-set_other, get_or-append-add, Some, cases_eq, set-append_right, Output, next_word, put, Saved, Ending, total_word, changed, with_due, rested, finish, total_of, with_total}
+use Rattle.ink_base.specs.declared.limits.TheConstants as limits
 use Rattle.never_cut.specs.Stands.{thread_words}
 use Rattle.fram_words.specs.Header as header
 use Rattle.never_cut.proofs.Blocks.{below_eight, header_list}
@@ -60,42 +61,42 @@ unfolding thread_words
 words-outputs y s o v outputs w = put_set (thread_words y s o v) 9 (length outputs) w (omega (arith, words-length y s o v))
 
 -- to the counts of items, and to timers and their periods
-set-written : (y : Saved) (s o v n q : ℕ) → q < 8 → set (thread_words y s o v) (10 + q) n ≡ thread_words (record y { written = changed y.written q n }) s o v
+set-written : (y : Saved) (s o v n q : ℕ) → q < limits.PIPES → set (thread_words y s o v) (10 + q) n ≡ thread_words (record y { written = changed y.written q n }) s o v
 unfolding thread_words
 set-written y s o v n =
     below_eight (λ q. set (thread_words y s o v) (10 + q) n ≡ thread_words (record y { written = changed y.written q n }) s o v) refl refl refl refl refl refl refl refl
 
-pub words-written : (y : Saved) (s o v q n w : ℕ) → q < 8 →
+pub words-written : (y : Saved) (s o v q n w : ℕ) → q < limits.PIPES →
     put (λ k. get_or (thread_words y s o v) k 0) (10 + q) n w ≡ get_or (thread_words (record y { written = changed y.written q n }) s o v) w 0
 words-written y s o v q n w lt =
     put_set (thread_words y s o v) (10 + q) n w (omega (arith, words-length y s o v)) ∙ ap (λ l. get_or l w 0) (set-written y s o v n q lt)
 
-set-taken : (y : Saved) (s o v n q : ℕ) → q < 8 → set (thread_words y s o v) (18 + q) n ≡ thread_words (record y { taken = changed y.taken q n }) s o v
+set-taken : (y : Saved) (s o v n q : ℕ) → q < limits.PIPES → set (thread_words y s o v) (18 + q) n ≡ thread_words (record y { taken = changed y.taken q n }) s o v
 unfolding thread_words
 set-taken y s o v n =
     below_eight (λ q. set (thread_words y s o v) (18 + q) n ≡ thread_words (record y { taken = changed y.taken q n }) s o v) refl refl refl refl refl refl refl refl
 
-pub words-taken : (y : Saved) (s o v q n w : ℕ) → q < 8 →
+pub words-taken : (y : Saved) (s o v q n w : ℕ) → q < limits.PIPES →
     put (λ k. get_or (thread_words y s o v) k 0) (18 + q) n w ≡ get_or (thread_words (record y { taken = changed y.taken q n }) s o v) w 0
 words-taken y s o v q n w lt =
     put_set (thread_words y s o v) (18 + q) n w (omega (arith, words-length y s o v)) ∙ ap (λ l. get_or l w 0) (set-taken y s o v n q lt)
 
-set-due : (y : Saved) (s o v n j : ℕ) → j < 8 → set (thread_words y s o v) (26 + 2 * j) n ≡ thread_words (with_due y j n) s o v
+set-due : (y : Saved) (s o v n j : ℕ) → j < limits.TIMERS → set (thread_words y s o v) (26 + 2 * j) n ≡ thread_words (with_due y j n) s o v
 unfolding thread_words
 set-due y s o v n =
     below_eight (λ j. set (thread_words y s o v) (26 + 2 * j) n ≡ thread_words (with_due y j n) s o v) refl refl refl refl refl refl refl refl
 
-pub words-due : (y : Saved) (s o v j n w : ℕ) → j < 8 →
+pub words-due : (y : Saved) (s o v j n w : ℕ) → j < limits.TIMERS →
     put (λ k. get_or (thread_words y s o v) k 0) (26 + 2 * j) n w ≡ get_or (thread_words (with_due y j n) s o v) w 0
 words-due y s o v j n w lt =
     put_set (thread_words y s o v) (26 + 2 * j) n w (omega (arith, words-length y s o v)) ∙ ap (λ l. get_or l w 0) (set-due y s o v n j lt)
 
-set-period : (y : Saved) (s o v n j : ℕ) → j < 8 → set (thread_words y s o v) (27 + 2 * j) n ≡ thread_words (record y { period = changed y.period j n }) s o v
+set-period : (y : Saved) (s o v n j : ℕ) → j < limits.TIMERS → set (thread_words y s o v) (27 + 2 * j) n ≡ thread_words (record y { period = changed y.period j n }) s o v
 unfolding thread_words
 set-period y s o v n =
     below_eight (λ j. set (thread_words y s o v) (27 + 2 * j) n ≡ thread_words (record y { period = changed y.period j n }) s o v) refl refl refl refl refl refl refl refl
 
-pub words-period : (y : Saved) (s o v j n w : ℕ) → j < 8 →
+pub words-period : (y : Saved) (s o v j n w : ℕ) → j < limits.TIMERS →
     put (λ k. get_or (thread_words y s o v) k 0) (27 + 2 * j) n w ≡ get_or (thread_words (record y { period = changed y.period j n }) s o v) w 0
 words-period y s o v j n w lt =
     put_set (thread_words y s o v) (27 + 2 * j) n w (omega (arith, words-length y s o v)) ∙ ap (λ l. get_or l w 0) (set-period y s o v n j lt)
@@ -129,19 +130,19 @@ pub words-of_state : (y : Saved) (s o v i : ℕ) → get_or (thread_words y s o 
 unfolding thread_words
 words-of_state y s o v i = get_or-append-add (header_list y s o v) y.state i 0
 
-pub words-of_written : (y : Saved) (s o v q : ℕ) → q < 8 → get_or (thread_words y s o v) (10 + q) 0 ≡ y.written q
+pub words-of_written : (y : Saved) (s o v q : ℕ) → q < limits.PIPES → get_or (thread_words y s o v) (10 + q) 0 ≡ y.written q
 unfolding thread_words
 words-of_written y s o v = below_eight (λ q. get_or (thread_words y s o v) (10 + q) 0 ≡ y.written q) refl refl refl refl refl refl refl refl
 
-pub words-of_taken : (y : Saved) (s o v q : ℕ) → q < 8 → get_or (thread_words y s o v) (18 + q) 0 ≡ y.taken q
+pub words-of_taken : (y : Saved) (s o v q : ℕ) → q < limits.PIPES → get_or (thread_words y s o v) (18 + q) 0 ≡ y.taken q
 unfolding thread_words
 words-of_taken y s o v = below_eight (λ q. get_or (thread_words y s o v) (18 + q) 0 ≡ y.taken q) refl refl refl refl refl refl refl refl
 
-pub words-of_due : (y : Saved) (s o v j : ℕ) → j < 8 → get_or (thread_words y s o v) (26 + 2 * j) 0 ≡ y.due j
+pub words-of_due : (y : Saved) (s o v j : ℕ) → j < limits.TIMERS → get_or (thread_words y s o v) (26 + 2 * j) 0 ≡ y.due j
 unfolding thread_words
 words-of_due y s o v = below_eight (λ j. get_or (thread_words y s o v) (26 + 2 * j) 0 ≡ y.due j) refl refl refl refl refl refl refl refl
 
-pub words-of_period : (y : Saved) (s o v j : ℕ) → j < 8 → get_or (thread_words y s o v) (27 + 2 * j) 0 ≡ y.period j
+pub words-of_period : (y : Saved) (s o v j : ℕ) → j < limits.TIMERS → get_or (thread_words y s o v) (27 + 2 * j) 0 ≡ y.period j
 unfolding thread_words
 words-of_period y s o v = below_eight (λ j. get_or (thread_words y s o v) (27 + 2 * j) 0 ≡ y.period j) refl refl refl refl refl refl refl refl
 

@@ -1,5 +1,6 @@
 -- The ranges in which an access of a task can be made.
 use Rattle.std.specs.Prelude.{ℕ, ◌+◌, ◌^◌, ◌<◌, ◌≤◌, length, Option, Some}
+use Rattle.ink_base.specs.declared.limits.TheConstants as limits
 use Rattle.ink_base.specs.declared.ids.TaskId.{TaskId}
 use Rattle.fram_words.specs.Held.{FitsOrigin}
 use Rattle.task_isa.specs.declared.program.Program.{Program}
@@ -9,14 +10,14 @@ use Rattle.task_run.specs.declared.sending.Sending.{Sending}
 use Rattle.task_run.specs.declared.phase.Phase.{Phase}
 use Rattle.task_run.specs.declared.phase.Phase.TheVariants.{WriteOrigin, WriteTaken, ReadPeriod, WriteDue, Resume, Fetch, ReadState, WriteState, StoreLog, WriteCount, LoadReader, LoadTaken, ReadWritten, StoreItem, WriteWritten, WriteArmed, WritePeriod, WriteStopped, ReadTotal, StoreAck, Over}
 use Rattle.task_run.specs.declared.machine.TaskMachine.{TaskMachine}
-use Rattle.task_run.specs.Machine.{device}
+use Rattle.task_run.specs.Actions.{device}
 
 -- an instruction of the task is executed
 pub record FitsExecution (program : Program) (x : Execution) : Type 0 where
   pub task : x.task.0 < length program.tasks
   pub inside : x.at < length (task_def program x.task.0).code
-  pub small : x.at < 4096
-  pub few : x.executed < 4096
+  pub small : x.at < limits.INSTRUCTIONS
+  pub few : x.executed < limits.TASK_LIMIT
   pub left : x.executed < (task_def program x.task.0).limit
 
 -- an instruction is executed that sends to a pipe of the program
@@ -35,9 +36,9 @@ FitsChain _ _ first time = Unit {0}
 -- the numbers of a phase are in their ranges
 abbrev pub FitsPhase : Program → TaskMachine → Phase → Type 0
 FitsPhase program r WriteOrigin = FitsOrigin r.pick.event.origin
-FitsPhase program r WriteTaken = (device r < 8) × (r.pick.taken < 2 ^ 32)
-FitsPhase program r ReadPeriod = (device r < 8) × (1 ≤ r.pick.due_word) × (r.pick.due_word ≤ 2 ^ 48)
-FitsPhase program r (WriteDue w) = device r < 8
+FitsPhase program r WriteTaken = (device r < limits.PIPES) × (r.pick.taken < 2 ^ 32)
+FitsPhase program r ReadPeriod = (device r < limits.TIMERS) × (1 ≤ r.pick.due_word) × (r.pick.due_word ≤ 2 ^ 48)
+FitsPhase program r (WriteDue w) = device r < limits.TIMERS
 FitsPhase program r Resume = FitsExecution program r.execution × FitsChain (thread_def program r.pick.thread.0).expires r.pick.running r.pick.first r.pick.time
 FitsPhase program r Fetch = FitsExecution program r.execution
 FitsPhase program r (ReadState a n) = FitsExecution program r.execution × (n < (thread_def program r.pick.thread.0).state)

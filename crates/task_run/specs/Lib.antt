@@ -1,4 +1,5 @@
 pub mod Endings
+pub mod Actions
 pub mod Machine
 pub mod Fits
 pub mod Reached

@@ -7,6 +7,7 @@ ghost use Rattle.prog_check.specs.Accepted.{IsAccepted};
 ghost use Rattle.prog_check.specs.Lookup as lookup;
 ghost use Rattle.task_run.specs.declared.phase.Phase.TheVariants as phases;
 ghost use Rattle.task_run.specs.Machine as machine;
+ghost use Rattle.task_run.specs.Actions as actions;
 ghost use Rattle.task_run.specs.Fits.{FitsExecution};
 
 use crate::ending::Ending;
@@ -15,6 +16,7 @@ use crate::machine::TaskMachine;
 use crate::parts::state_of;
 use crate::phase::Phase;
 use crate::sending::Sending;
+use ink_base::limits::TASK_LIMIT;
 use task_isa::{Act, Instr, Program, Reg, act_for};
 
 impl TaskMachine {
@@ -118,7 +120,7 @@ impl TaskMachine {
     // A register is set, and the next instruction follows.
     pub(crate) fn set(&mut self, program: &Program, register: Reg, value: u32)
         requires fits { FitsExecution program.now self.old.execution }
-        ensures { self.new ≡ machine.proceed program.now self.old (meaning.advance_with (machine.cpu_of self.old.execution) register value) }
+        ensures { self.new ≡ machine.proceed program.now self.old (meaning.advance_with (actions.cpu_of self.old.execution) register value) }
     {
         if self.has_next(program) {
             self.execution.registers[register.number() as usize] = value;
@@ -132,7 +134,7 @@ impl TaskMachine {
     // The next instruction follows.
     pub(crate) fn proceed(&mut self, program: &Program)
         requires fits { FitsExecution program.now self.old.execution }
-        ensures { self.new ≡ machine.proceed program.now self.old (meaning.advance (machine.cpu_of self.old.execution)) }
+        ensures { self.new ≡ machine.proceed program.now self.old (meaning.advance (actions.cpu_of self.old.execution)) }
     {
         if self.has_next(program) {
             self.execution.at += 1;
@@ -145,7 +147,7 @@ impl TaskMachine {
     // The instruction at this offset follows.
     fn go(&mut self, program: &Program, offset: u32)
         requires fits { FitsExecution program.now self.old.execution }
-        ensures { self.new ≡ machine.proceed program.now self.old (record (machine.cpu_of self.old.execution) { at = offset }) }
+        ensures { self.new ≡ machine.proceed program.now self.old (record (actions.cpu_of self.old.execution) { at = offset }) }
     {
         if self.has_next(program) {
             self.execution.at = offset;
@@ -166,7 +168,7 @@ impl TaskMachine {
 
     // An instruction was executed.
     fn step(&mut self)
-        requires { self.old.execution.executed < 4096 }
+        requires { self.old.execution.executed < TASK_LIMIT }
         ensures { self.new ≡ record self.old { execution = record self.old.execution { executed = self.old.execution.executed + 1 }; phase = phases.Fetch } }
     {
         self.execution.executed += 1;

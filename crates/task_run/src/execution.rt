@@ -1,7 +1,7 @@
 //! How far the run of a task is.
 
 ghost use Rattle.std.specs.Prelude.{◌≡◌};
-ghost use Rattle.task_run.specs.Machine.{execution_of};
+ghost use Rattle.task_run.specs.Actions.{execution_of};
 
 use ink_base::TaskId;
 

@@ -3,7 +3,7 @@
 ghost use Rattle.std.specs.Prelude.{◌≡◌, ◌<◌};
 ghost use Rattle.std.specs.Option.{ForSome};
 ghost use Rattle.prog_check.specs.Accepted.{IsAccepted};
-ghost use Rattle.task_run.specs.Machine as machine;
+ghost use Rattle.task_run.specs.Actions as actions;
 ghost use Rattle.task_run.specs.kept.Copies as copies;
 ghost use Rattle.task_run.specs.Fits.{FitsTask};
 
@@ -17,7 +17,7 @@ impl TaskMachine {
     pub(crate) fn page_copied(&self, program: &Program) -> Option<u32>
         requires accepted { IsAccepted program.now }
         requires fits { FitsTask program.now self.now }
-        ensures page { result ≡ copies.page_copied self.now.buffer (machine.action program.now self.now self.now.phase) }
+        ensures page { result ≡ copies.page_copied self.now.buffer (actions.action program.now self.now self.now.phase) }
         ensures few { ForSome result (λ page. page < 64) }
     {
         match self.page_written(program) {
@@ -30,7 +30,7 @@ impl TaskMachine {
     fn page_written(&self, program: &Program) -> Option<u32>
         requires accepted { IsAccepted program.now }
         requires fits { FitsTask program.now self.now }
-        ensures page { result ≡ copies.page_written (machine.action program.now self.now self.now.phase) }
+        ensures page { result ≡ copies.page_written (actions.action program.now self.now self.now.phase) }
         ensures few { ForSome result (λ page. page < 38) }
     {
         match self.phase {

@@ -8,6 +8,7 @@ ghost use Rattle.task_isa.specs.Code.{decoded};
 ghost use Rattle.task_isa.specs.declared.program.Task.{Task};
 ghost use Rattle.prog_check.specs.Lookup as lookup;
 ghost use Rattle.task_run.specs.Machine as machine;
+ghost use Rattle.task_run.specs.Actions as actions;
 ghost use Rattle.task_run.specs.Fits.{FitsChain};
 
 use ink_base::{Origin, TaskId, ThreadId};
@@ -59,7 +60,7 @@ pub(crate) fn is_overdue(
     time: u64,
 ) -> bool
     requires { FitsChain expires running first time }
-    ensures { result ≡ machine.is_overdue expires running first time }
+    ensures { result ≡ actions.is_overdue expires running first time }
 {
     match (expires, running) {
         (Some(ticks), Some(_)) => is_expired(ticks, first, time),

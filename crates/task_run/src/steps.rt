@@ -5,6 +5,7 @@ ghost use Rattle.prog_check.specs.Accepted.{IsAccepted};
 ghost use Rattle.prog_check.specs.Lookup as lookup;
 ghost use Rattle.task_run.specs.declared.phase.Phase.TheVariants as phases;
 ghost use Rattle.task_run.specs.Machine as machine;
+ghost use Rattle.task_run.specs.Actions as actions;
 ghost use Rattle.task_run.specs.Fits.{FitsChain, FitsExecution, FitsSending, FitsTask, FitsWord};
 
 use crate::ending::Ending;
@@ -115,7 +116,7 @@ impl TaskMachine {
         requires time { self.old.pick.time < 2 ^ 47 }
         requires fits { FitsExecution program.now self.old.execution }
         requires chain { FitsChain (lookup.thread_def program.now self.old.pick.thread.0).expires self.old.pick.running self.old.pick.first self.old.pick.time }
-        ensures { self.new ≡ machine.after_resume program.now self.old (machine.is_late program.now self.old) word }
+        ensures { self.new ≡ machine.after_resume program.now self.old (actions.is_late program.now self.old) word }
     {
         if self.is_late(program) {
             self.ending = Ending::Expired;

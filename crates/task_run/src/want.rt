@@ -10,6 +10,7 @@ ghost use Rattle.fram_words.specs.Held as held;
 ghost use Rattle.ink_layout.specs.Shape.{IsOnBoard, block_words};
 ghost use Rattle.thread_state.specs.Pages as pages;
 ghost use Rattle.task_run.specs.Machine as machine;
+ghost use Rattle.task_run.specs.Actions as actions;
 ghost use Rattle.task_run.specs.declared.phase.Phase.TheVariants as phases;
 ghost use Rattle.task_run.specs.Fits.{FitsChain, FitsExecution, FitsTask};
 
@@ -166,7 +167,7 @@ impl TaskMachine {
         requires known { self.now.pick.thread.0 < length program.now.threads }
         requires fits { FitsExecution program.now self.now.execution }
         requires chain { FitsChain (thread_def program.now self.now.pick.thread.0).expires self.now.pick.running self.now.pick.first self.now.pick.time }
-        ensures step { access_of result ≡ machine.access_of self.now (machine.action program.now self.now phases.Resume) }
+        ensures step { access_of result ≡ actions.access_of self.now (actions.action program.now self.now phases.Resume) }
         ensures there { IsOnBoard program.now (places.place_of (access_of result)) }
     {
         if self.is_late(program) {
@@ -178,7 +179,7 @@ impl TaskMachine {
 
     // The number of the pipe or timer that the event is of.
     pub(crate) fn device(&self) -> u32
-        ensures { result ≡ machine.device self.now }
+        ensures { result ≡ actions.device self.now }
     {
         number_of(self.pick.event.origin)
     }
@@ -187,7 +188,7 @@ impl TaskMachine {
     pub(crate) fn is_late(&self, program: &Program) -> bool
         requires known { self.now.pick.thread.0 < length program.now.threads }
         requires chain { FitsChain (thread_def program.now self.now.pick.thread.0).expires self.now.pick.running self.now.pick.first self.now.pick.time }
-        ensures { result ≡ machine.is_late program.now self.now }
+        ensures { result ≡ actions.is_late program.now self.now }
     {
         is_overdue(
             program.threads.as_slice()[self.pick.thread.0 as usize].expires,
@@ -214,7 +215,7 @@ impl TaskMachine {
         requires known { self.now.pick.thread.0 < length program.now.threads }
         requires within { index < (thread_def program.now self.now.pick.thread.0).log }
         requires stamp { self.now.stamp + 1 < 2 ^ 32 }
-        ensures step { access_of result ≡ places.Store (places.Log self.now.pick.thread.0 index) (held.output_word (machine.output_of self.now value)) }
+        ensures step { access_of result ≡ places.Store (places.Log self.now.pick.thread.0 index) (held.output_word (actions.output_of self.now value)) }
         ensures there { IsOnBoard program.now (places.place_of (access_of result)) }
     {
         let thread = self.pick.thread;
@@ -239,7 +240,7 @@ impl TaskMachine {
     fn emptying(&self, program: &Program) -> Step
         requires accepted { IsAccepted program.now }
         requires fits { FitsTask program.now self.now }
-        ensures step { access_of result ≡ machine.emptying program.now self.now }
+        ensures step { access_of result ≡ actions.emptying program.now self.now }
         ensures there { IsOnBoard program.now (places.place_of (access_of result)) }
     {
         let thread = self.pick.thread;

@@ -2,7 +2,11 @@
 #![tactic(auto)]
 
 #[cfg(test)]
+mod faults;
+#[cfg(test)]
 mod fixtures;
+#[cfg(test)]
+mod forms;
 #[cfg(test)]
 mod instructions;
 #[cfg(test)]

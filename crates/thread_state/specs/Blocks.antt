@@ -1,6 +1,7 @@
 -- Where the words of a thread's block have their addresses.
 use Rattle.std.specs.Prelude.{ℕ, ◌+◌, ◌*◌, ◌/◌, ◌%◌, ◌^◌, ◌<◌, ◌≤◌}
 use Rattle.std.specs.Int.{bit_at}
+use Rattle.ink_base.specs.declared.limits.TheConstants as limits
 use Rattle.fram_words.specs.declared.access.Access as declared
 use Rattle.fram_words.specs.declared.access.Access.TheVariants as fram
 use Rattle.fram_words.specs.Places.{Place, Commit, Page, Access, Load, Store, Exchange, Add}
@@ -11,10 +12,10 @@ use Rattle.thread_state.specs.declared.block.Block.{Block}
 abbrev pub pages_of : Block → ℕ
 pages_of block = (block.words + 7) / 8
 
--- a header and at most 256 words of state, and each of its places has an address
+-- a header and no more words of state than a thread can have, and each of its places has an address
 pub record IsPlaced (block : Block) : Type 0 where
   pub header : header_words ≤ block.words
-  pub state : block.words ≤ header_words + 256
+  pub state : block.words ≤ header_words + limits.STATE_NUMBERS
   pub pages : block.first + 16 * pages_of block ≤ 2 ^ 32
 
 -- a commit word of the block has no bit at or above the number of pages

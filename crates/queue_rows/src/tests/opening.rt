@@ -5,6 +5,7 @@ ghost use Rattle.event_queue.specs.Views.{lay_of};
 ghost use Rattle.queue_rows.specs.Rounds.{firsts, IsOneQueue, IsNew, IsAt};
 
 use event_queue::{ClockSeat, KernelSeat, QueueSet, Shape, SourceSeat};
+use ink_base::limits::{QUEUE_PLACES, SOURCES};
 use ink_base::{NoMemory, ThreadId};
 use std::alloc::Global;
 
@@ -36,8 +37,8 @@ pub fn open(
     places: u8,
     number: usize,
 ) -> Result<(QueueSet, KernelSeat, Vec<SourceSeat>, ClockSeat), NoMemory>
-    requires places { (0 < places) × (places ≤ 32) }
-    requires number { number ≤ 16 }
+    requires places { (0 < places) × (places ≤ QUEUE_PLACES) }
+    requires number { number ≤ SOURCES }
     ensures kernel { IfOk result (λ r. IsAt r.0 0 r.1) }
     ensures sources { IfOk result (λ r. All (IsNew r.0 places) r.2.items) }
     ensures clock { IfOk result (λ r. IsNewClock r.0 r.3) }

@@ -1,7 +1,7 @@
 -- Which page an access copies a word of.
 use Rattle.std.specs.Prelude.{ℕ, ◌/◌, if◌then◌else◌, Option, Some, None}
 use Rattle.thread_state.specs.Pages.{Buffer, is_dirty}
-use Rattle.task_run.specs.Machine.{Action, Put, Get, Make}
+use Rattle.task_run.specs.Actions.{Action, Put, Get, Make}
 
 -- the page that an action writes to
 abbrev pub page_written : Action → Option ℕ

@@ -18,7 +18,7 @@ syn keyword inkJobTodo TODO FIXME XXX contained
 
 " Headers of sections; another line that begins with a bracket is none
 syn match inkJobNoHeader /^\s*\zs\[[^#]*/
-syn match inkJobHeader /^\s*\zs\[\%(program\|sensors\|power\)\]\ze\s*\%(#\|$\)/
+syn match inkJobHeader /^\s*\zs\[\%(program\|sensors\|power\|image[12]\)\]\ze\s*\%(#\|$\)/
 
 " Words within lines
 syn match inkJobNumber /\%(\s\)\@<=\d\{1,10}\ze\%(\s\|#\|$\)/ contained
@@ -41,6 +41,9 @@ syn match inkJobInstruction /^\s*\zs\l\+\ze\%(\s\|#\|$\)/ contained
 syn match inkJobInstructionLine /^\s*\%(li\|mov\|add\|sub\|mul\|and\|or\|xor\|shl\|shr\|divu\|remu\|ltu\|eq\|ev\|kind\|num\|now\|ld\|st\|out\)\%(\s[^#]*\)\=\ze\%(#\|$\)/ contains=inkJobInstruction,inkJobRegister,inkJobNumber
 syn match inkJobInstructionLine /^\s*\%(jmp\|jz\|jnz\|send\|arm\|stop\|next\|done\)\%(\s[^#]*\)\=\ze\%(#\|$\)/ contains=inkJobInstruction,inkJobRegister
 
+" The words of an image
+syn match inkJobWord /\%(^\|\s\)\@<=\x\{16}\ze\%(\s\|#\|$\)/
+
 " Readings and charges
 syn match inkJobReadings /^\s*S\d\+\%(\s[^#]*\)\=\ze\%(#\|$\)/ contains=inkJobSource,inkJobNumber
 syn match inkJobCharge /^\s*\zscharge\ze\%(\s\|#\|$\)/ contained
@@ -58,6 +61,7 @@ hi def link inkJobInstruction Statement
 hi def link inkJobRegister Identifier
 hi def link inkJobNumber Number
 hi def link inkJobCount Number
+hi def link inkJobWord Number
 hi def link inkJobSource Special
 hi def link inkJobActor Special
 hi def link inkJobCharge Keyword

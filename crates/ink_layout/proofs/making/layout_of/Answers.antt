@@ -1,5 +1,6 @@
 -- The layout of the starts is the program's, and its words are few.
 use Rattle.ink_layout.proofs.Common.{◌≡◌, ℕ, ◌<◌, ◌^◌, List, length, subst, sym, ◌∙◌, arith, Program, words_before, regions, shape_of, words_of, AreStarts, IsLayout}
+use Rattle.ink_base.specs.declared.limits.TheConstants as limits
 use Rattle.ink_layout.proofs.Bounds.{few_words}
 use Rattle.ink_layout.proofs.Layouts.{is_layout}
 use Rattle.ink_layout.proofs.Regions.{regions_count}
@@ -13,7 +14,7 @@ starts_are program given starts taken is all same =
 
 pub starts_of-requires : goal.starts_of-requires
 starts_of-requires c =
-    let few : words_of (shape_of c.args.program.now) < 100000 = few_words c.args.program.now c.requires in
+    let few : words_of (shape_of c.args.program.now) < limits.BOARD_WORDS = few_words c.args.program.now c.requires in
     subst (λ (xs : List ℕ). words_before xs (length xs) < 2 ^ 32) (sym (c.as_slice.ensures.value ∙ c.in_ok-lengths.ensures)) (omega arith)
 
 pub layout_at-requires : goal.layout_at-requires
@@ -33,5 +34,5 @@ returns-clause-layout c = made c
 
 pub returns-clause-few : goal.returns-clause-few
 returns-clause-few c =
-    let few : words_of (shape_of c.args.program.now) < 100000 = few_words c.args.program.now c.requires in
+    let few : words_of (shape_of c.args.program.now) < limits.BOARD_WORDS = few_words c.args.program.now c.requires in
     omega (arith, (made c).words)

@@ -1,5 +1,5 @@
 -- A word in its range, by the lemma on each phase.
-use Rattle.task_run.proofs.Alone.{task_word}
+use Rattle.task_run.proofs.TaskWords.{task_word}
 use Rattle.task_run.proofs.machine.TaskMachine.want.Goals as goal
 
 pub returns-clause-range : goal.returns-clause-range

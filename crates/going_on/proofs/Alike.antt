@@ -1,0 +1,166 @@
+-- Two states that differ by what a cut loses alone do so after the same legal entries too.
+use Rattle.going_on.proofs.Common.{◌≡◌, ◌⊎◌, inl, inr, ℕ, zero, suc, ◌+◌, ◌≤◌, Bool, true, false, List, [], ◌∷◌, length, map, get_or, set, cond, if◌then◌else◌, Option, Some, None, refl, sym, ap, ◌∙◌, subst, arith, slice_index, map-set, Entry, Program, Model, SourceModel, thread_of, source_of, no_source, Readings, readings_of, Legal, effect, IsLegal, after}
+use Rattle.ink_base.specs.declared.entry.Entry.TheVariants.{Push, Refuse, Skip, Tick, Scan, Look, Commit, Release}
+use Rattle.ink_base.specs.declared.event.Event.{Event}
+use Rattle.ink_base.specs.declared.ids.ThreadId.{ThreadId}
+use Rattle.push_core.specs.Queue.{reading_event}
+use Rattle.prog_check.specs.Lookup.{source_thread}
+use Rattle.never_cut.specs.declared.scan_model.ScanModel.{ScanModel}
+use Rattle.never_cut.specs.State.{is_running, source_in}
+use Rattle.never_cut.specs.Pending.{pending}
+use Rattle.never_cut.specs.Commit.{commit, committed, consumed, ended, end_at, expired, is_expired}
+use Rattle.never_cut.specs.Entries.{ArePassed, InScan, MayLook, fed_by, next_event, looked, pushed, with_accepted, with_refused, with_skipped}
+use Rattle.never_cut.proofs.Commits.{commit-sources}
+use Rattle.going_on.specs.Lost.{unmarked, without_scan}
+
+-- from its floor on, each reading of a source is the same
+abbrev pub AgreeFrom : (floor : ℕ → ℕ) → (one two : Readings) → Type 0
+AgreeFrom floor one two = (i k : ℕ) → floor i ≤ k → slice_index (readings_of one i) k ≡ slice_index (readings_of two i) k
+
+-- each source has settled the readings below its floor
+abbrev pub IsAbove : (floor : ℕ → ℕ) → Model → Type 0
+IsAbove floor m = (i : ℕ) → floor i ≤ (source_of m i).next
+
+-- the states differ by what a cut loses alone, and the second has the scan of the first, or none
+pub record IsAlike (a b : Model) : Type 0 where
+  pub same : without_scan a ≡ without_scan b
+  pub scan : (b.scan ≡ None) ⊎ (b.scan ≡ a.scan)
+
+-- a source that has settled more
+set_rises : (xs : List SourceModel) (i j : ℕ) (s : SourceModel) → (get_or xs j no_source).next ≤ s.next → (get_or xs i no_source).next ≤ (get_or (set xs j s) i no_source).next
+set_rises [] i j s le = omega arith
+set_rises (x ∷ xs) zero zero s le = le
+set_rises (x ∷ xs) zero (suc j) s le = omega arith
+set_rises (x ∷ xs) (suc i) zero s le = omega arith
+set_rises (x ∷ xs) (suc i) (suc j) s le = set_rises xs i j s le
+
+-- no entry unsettles a reading
+pub rises : (program : Program) (readings : Readings) (m : Model) (e : Entry) (i : ℕ) → (source_of m i).next ≤ (source_of (effect program readings m e) i).next
+rises program readings m (Push j) i = set_rises m.sources i j.0 (with_accepted (source_of m j.0)) (omega arith)
+rises program readings m (Refuse j) i = set_rises m.sources i j.0 (with_refused (source_of m j.0)) (omega arith)
+rises program readings m (Skip j) i = set_rises m.sources i j.0 (with_skipped (source_of m j.0)) (omega arith)
+rises program readings m (Tick by) i = omega arith
+rises program readings m Scan i = omega arith
+rises program readings m (Look t) i = omega arith
+rises program readings m (Commit t) i = let same = ap (λ (xs : List SourceModel). (get_or xs i no_source).next) (commit-sources program t.0 m) in omega arith
+rises program readings m (Release t) i = omega arith
+
+pub rises_after : (program : Program) (readings : Readings) (m : Model) (entries : List Entry) (i : ℕ) → (source_of m i).next ≤ (source_of (after program readings m entries) i).next
+rises_after program readings m [] i = omega arith
+rises_after program readings m (e ∷ entries) i = let one = rises program readings m e i in let more = rises_after program readings (effect program readings m e) entries i in omega arith
+
+-- an element's image
+pub image_at : (xs : List SourceModel) (i : ℕ) → get_or (map unmarked xs) i no_source ≡ unmarked (get_or xs i no_source)
+image_at [] i = refl
+image_at (x ∷ xs) zero = refl
+image_at (x ∷ xs) (suc i) = image_at xs i
+
+-- a commit takes no notice of sources
+abbrev with_sources : List SourceModel → Model → Model
+with_sources sources m = record m { sources = sources }
+
+commit_apart : (program : Program) (t : ℕ) (sources : List SourceModel) (m : Model) → commit program t (with_sources sources m) ≡ with_sources sources (commit program t m)
+commit_apart program t sources m = by_scan m.scan
+  where
+    by_end : (late running : Bool) (e : Event) (time : ℕ) →
+        (record (cond late (expired t e (with_sources sources m)) (ended t e time (end_at program m t e time) (consumed running e (with_sources sources m)))) { commits = m.commits + 1; scan = None })
+        ≡ with_sources sources (record (cond late (expired t e m) (ended t e time (end_at program m t e time) (consumed running e m))) { commits = m.commits + 1; scan = None })
+    by_end true running e time = refl
+    by_end false true e time = refl
+    by_end false false e time = refl
+
+    by_pending : (scan : ScanModel) (q : Option Event) →
+        elim q [ None ↦ with_sources sources m | Some e ↦ committed program t e scan.time (with_sources sources m) ]
+        ≡ with_sources sources (elim q [ None ↦ m | Some e ↦ committed program t e scan.time m ])
+    by_pending scan None = refl
+    by_pending scan (Some e) = by_end (is_expired program m t scan.time) (is_running (thread_of m t)) e scan.time
+
+    by_scan : (o : Option ScanModel) →
+        elim o [ None ↦ with_sources sources m | Some scan ↦ elim (pending program m t) [ None ↦ with_sources sources m | Some e ↦ committed program t e scan.time (with_sources sources m) ] ]
+        ≡ with_sources sources (elim o [ None ↦ m | Some scan ↦ elim (pending program m t) [ None ↦ m | Some e ↦ committed program t e scan.time m ] ])
+    by_scan None = refl
+    by_scan (Some scan) = by_pending scan (pending program m t)
+
+-- a scan, if there is one, that has looked at one thread more
+abbrev looked_on : ThreadId → Option ScanModel → Option ScanModel
+looked_on t o = elim o [ None ↦ None | Some scan ↦ Some (looked t scan) ]
+
+-- the first state with other sources and another scan
+abbrev with_both : Model → List SourceModel → Option ScanModel → Model
+with_both m sources scan = record m { sources = sources; scan = scan }
+
+module _ (program : Program) (one two : Readings) (floor : ℕ → ℕ) (agree : AgreeFrom floor one two) where
+  module _ (a : Model) (bs : List SourceModel) (sc : Option ScanModel) (same : map unmarked a.sources ≡ map unmarked bs) (scan : (sc ≡ None) ⊎ (sc ≡ a.scan)) where
+    abbrev b : Model
+    b = with_both a bs sc
+
+    source_same : (i : ℕ) → unmarked (source_of a i) ≡ unmarked (source_of b i)
+    source_same i = sym (image_at a.sources i) ∙ (ap (λ (l : List SourceModel). get_or l i no_source) same ∙ image_at bs i)
+
+    -- sources that are set alike
+    sources_set : (i : ℕ) (x y : SourceModel) → unmarked x ≡ unmarked y → map unmarked (set a.sources i x) ≡ map unmarked (set bs i y)
+    sources_set i x y is = map-set unmarked a.sources i x ∙ ((λ k. set (same k) i (is k)) ∙ sym (map-set unmarked bs i y))
+
+    event_same : (i : ℕ) → floor i ≤ (source_of b i).next → next_event one a i ≡ next_event two b i
+    event_same i above =
+        let s = source_same i in
+        (λ k. reading_event i (s k).accepted (slice_index (readings_of one i) (s k).next))
+        ∙ ap (λ v. reading_event i (source_of b i).accepted v) (agree i (source_of b i).next above)
+
+    step_alike : (e : Entry) → IsAbove floor b → Legal program two b e → IsAlike (effect program one a e) (effect program two b e)
+    step_alike (Push i) above legal =
+        let event = event_same i.0 (above i.0) in
+        let s = source_same i.0 in
+        let sources = sources_set i.0 (with_accepted (source_of a i.0)) (with_accepted (source_of b i.0)) (λ k. record { next = (s k).next + 1; accepted = (s k).accepted + 1; refused = false }) in
+        record {
+          same = λ k. record (without_scan (effect program one a (Push i))) {
+            threads = set a.threads (source_thread program i.0) (pushed (event k) (fed_by program a i.0));
+            sources = sources k;
+          };
+          scan = scan;
+        }
+    step_alike (Refuse i) above legal =
+        let s = source_same i.0 in
+        let sources = sources_set i.0 (with_refused (source_of a i.0)) (with_refused (source_of b i.0)) s in
+        record { same = λ k. record (without_scan a) { sources = sources k }; scan = scan }
+    step_alike (Skip i) above legal =
+        let s = source_same i.0 in
+        let sources = sources_set i.0 (with_skipped (source_of a i.0)) (with_skipped (source_of b i.0)) (λ k. record { next = (s k).next + 1; accepted = (s k).accepted; refused = false }) in
+        record { same = λ k. record (without_scan a) { sources = sources k }; scan = scan }
+    step_alike (Tick by) above legal = record { same = λ k. record (without_scan (effect program one a (Tick by))) { sources = same k }; scan = scan }
+    step_alike Scan above legal = record { same = λ k. record (without_scan a) { sources = same k }; scan = inr refl }
+    step_alike (Look t) above legal = record { same = λ k. record (without_scan a) { sources = same k }; scan = by_scan scan legal.1 }
+      where
+        by_scan : (sc ≡ None) ⊎ (sc ≡ a.scan) → InScan b (λ x. MayLook b x t.0) → (looked_on t sc ≡ None) ⊎ (looked_on t sc ≡ looked_on t a.scan)
+        by_scan (inl none) legal = inl (ap (looked_on t) none)
+        by_scan (inr is) legal = inr (ap (looked_on t) is)
+    step_alike (Commit t) above legal = by_scan scan legal
+      where
+        by_scan : (sc ≡ None) ⊎ (sc ≡ a.scan) → Legal program two b (Commit t) → IsAlike (effect program one a (Commit t)) (effect program two b (Commit t))
+        by_scan (inl none) legal = absurd (subst (λ (o : Option ScanModel). InScan (with_both a bs o) (λ x. ArePassed program b x t.0)) none legal.1)
+        by_scan (inr is) legal =
+            subst (λ (o : Option ScanModel). IsAlike (commit program t.0 a) (commit program t.0 (with_both a bs o))) (sym is)
+            (subst (λ (m : Model). IsAlike (commit program t.0 a) m) (sym (commit_apart program t.0 bs a))
+            (record { same = λ k. record (without_scan (commit program t.0 a)) { sources = (ap (map unmarked) (commit-sources program t.0 a) ∙ same) k }; scan = inr refl }))
+    step_alike (Release t) above legal = record { same = λ k. record (without_scan (effect program one a (Release t))) { sources = same k }; scan = scan }
+
+  step : (a b : Model) (e : Entry) → IsAlike a b → IsAbove floor b → Legal program two b e → IsAlike (effect program one a e) (effect program two b e)
+  step a b e alike above legal =
+      let is : with_both a b.sources b.scan ≡ b = λ k. record {
+        threads = (alike.same k).threads;
+        pipes = (alike.same k).pipes;
+        timers = (alike.same k).timers;
+        sources = b.sources;
+        clock = (alike.same k).clock;
+        outputs = (alike.same k).outputs;
+        commits = (alike.same k).commits;
+        scan = b.scan;
+      } in
+      subst (λ (m : Model). IsAbove floor m → Legal program two m e → IsAlike (effect program one a e) (effect program two m e)) is
+      (step_alike a b.sources b.scan (ap (λ (m : Model). m.sources) alike.same) alike.scan e) above legal
+
+  pub after_alike : (a b : Model) (entries : List Entry) → IsAlike a b → IsAbove floor b → IsLegal program two b entries → IsAlike (after program one a entries) (after program two b entries)
+  after_alike a b [] alike above legal = alike
+  after_alike a b (e ∷ entries) alike above legal =
+      after_alike (effect program one a e) (effect program two b e) entries (step a b e alike above legal.0)
+      (λ i. let more = rises program two b e i in let low = above i in omega arith) legal.1
