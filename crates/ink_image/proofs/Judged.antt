@@ -1,6 +1,9 @@
 -- What is judged of a section, with its lines.
-use Rattle.ink_image.proofs.Common.{◌≡◌, ℕ, ◌<◌, Bool, true, false, List, [], ◌∷◌, ◌++◌, length, map, Option, Some, None, Result, Ok, Err, refl, sym, ap, ◌∙◌, inl, inr, arith, flat_map, eqb, eqb-true, Program, JobParts, Word, Line, Entry, entries, is_header, said, section_entries, with_said, onto, listed_of}
+use Rattle.ink_image.proofs.Common.{◌≡◌, ℕ, ◌<◌, Bool, true, false, List, [], ◌∷◌, ◌++◌, length, map, Option, Some, None, Result, Ok, Err, refl, sym, ap, subst, ◌∙◌, inl, inr, arith, flat_map, eqb, eqb-true, Program, JobParts, Word, Line, Entry, entries, is_header, said, section_entries, with_said, onto, listed_of}
 use Rattle.std.proofs.lemmas.Bool.{cases_Bool}
+use Rattle.std.proofs.lemmas.List.{length-map}
+use Rattle.ink_base.specs.declared.fault.JobAnswer.{JobAnswer}
+use Rattle.ink_base.specs.declared.fault.JobFault.{JobFault}
 use Rattle.ink_base.specs.declared.token.Token.{Token}
 use Rattle.ink_base.specs.Tokens.{entry_of}
 use Rattle.ink_base.specs.TokenLines.{join, grouped, token_lines}
@@ -11,7 +14,7 @@ use Rattle.ink_image.specs.declared.image.ImageAnswer.{ImageAnswer}
 use Rattle.ink_image.specs.declared.image.ImageAnswer.TheVariants.{BadWord, WrongShape, NotStanding, Worn, NoMemory}
 use Rattle.ink_image.specs.Image.{JudgesRead, JudgesSection, UnlessMemory}
 use Rattle.ink_image.specs.Reading.{read}
-use Rattle.ink_image.specs.Whole.{first_header, fault_at, IsWithin, IsJobAt, Answers}
+use Rattle.ink_image.specs.Whole.{first_header, fault_at, IsWithin, IsJobAt, IsJudged, IsMadeOf, IsJobBehind, Answers}
 
 -- what words that are read begin with
 first_read : (line : ℕ) (s : Option ℕ) (r : Result (List ℕ) ℕ) (ws : List ℕ) → with_said line s r ≡ Ok ws → (n : ℕ) × (rest : List ℕ) × (r ≡ Ok rest) × (n ∷ rest ≡ ws)
@@ -78,3 +81,24 @@ all_lines (l ∷ ls) h =
 pub all_tokens : (text : List ℕ) (tokens : List Token) → first_header (token_lines text tokens) ≡ None →
     section_entries (token_lines text tokens) ≡ map (entry_of text) tokens
 all_tokens text tokens h = all_lines (token_lines text tokens) h ∙ ungrouped (map (entry_of text) tokens)
+
+-- an address that is named is that of a token
+pub token_named : (text : List ℕ) (tokens : List Token) (form : Form) (program : Program) (listed : List ℕ) (e : ImageAnswer) → first_header (token_lines text tokens) ≡ None →
+    UnlessMemory (JudgesSection form program listed (section_entries (token_lines text tokens))) (Err e) → IsWithin (length tokens) e
+token_named text tokens form program listed e none told =
+    subst (λ n. IsWithin n e) (ap (λ (es : List Entry). length es) (all_tokens text tokens none) ∙ length-map tokens (entry_of text))
+    (named_within form program listed (section_entries (token_lines text tokens)) e told)
+
+-- the fault of a section without a further header
+pub fault_told : (text : List ℕ) (tokens : List Token) (job : JobParts) (form : Form) (header : ℕ) (e : ImageAnswer) → first_header (token_lines text tokens) ≡ None →
+    UnlessMemory (JudgesSection form job.program (listed_of job) (section_entries (token_lines text tokens))) (Err e) →
+    Answers (IsJudged (first_header (token_lines text tokens)) job form header (section_entries (token_lines text tokens))) (Err (fault_at header (map (entry_of text) tokens) e))
+fault_told text tokens job form header e none told =
+    let section : List Entry = section_entries (token_lines text tokens) in
+    subst (λ (further : Option ℕ). Answers (IsJudged further job form header section) (Err (fault_at header (map (entry_of text) tokens) e))) (sym none)
+    (subst (λ (es : List Entry). Answers (IsJobAt job form header section) (Err (fault_at header es e))) (all_tokens text tokens none) (refused job form header section e told))
+
+-- an answer by what the text was up to its image
+pub behind_told : (r : Result (JobParts × List Line) JobFault) (job : JobParts) (ls : List Line) (answer : Result JobParts JobAnswer) → r ≡ Ok (job, ls) →
+    Answers (IsMadeOf job ls) answer → Answers (IsJobBehind r) answer
+behind_told r job ls answer is told = subst (λ (x : Result (JobParts × List Line) JobFault). Answers (IsJobBehind x) answer) (sym is) told
