@@ -1,12 +1,13 @@
 -- Two states that differ by what a cut loses alone do so after the same legal entries too.
-use Rattle.going_on.proofs.Common.{◌≡◌, ◌⊎◌, inl, inr, ℕ, zero, suc, ◌+◌, ◌≤◌, Bool, true, false, List, [], ◌∷◌, length, map, get_or, set, cond, if◌then◌else◌, Option, Some, None, refl, sym, ap, ◌∙◌, subst, arith, slice_index, map-set, Entry, Program, Model, SourceModel, thread_of, source_of, no_source, Readings, readings_of, Legal, effect, IsLegal, after}
+use Rattle.going_on.proofs.Common.{◌≡◌, ◌⊎◌, inl, inr, ℕ, zero, suc, ◌+◌, ◌<◌, ◌≤◌, Bool, true, false, List, [], ◌∷◌, length, map, get_or, set, cond, Option, Some, None, refl, sym, ap, ◌∙◌, subst, arith, slice_index, length-map, map-set, Entry, Program, Model, SourceModel, thread_of, source_of, no_source, Readings, readings_of, Legal, effect, IsLegal, after}
 use Rattle.ink_base.specs.declared.entry.Entry.TheVariants.{Push, Refuse, Skip, Tick, Scan, Look, Commit, Release}
 use Rattle.ink_base.specs.declared.event.Event.{Event}
+use Rattle.std.specs.Prelude.{IsSome}
 use Rattle.ink_base.specs.declared.ids.ThreadId.{ThreadId}
 use Rattle.push_core.specs.Queue.{reading_event}
 use Rattle.prog_check.specs.Lookup.{source_thread}
 use Rattle.never_cut.specs.declared.scan_model.ScanModel.{ScanModel}
-use Rattle.never_cut.specs.State.{is_running, source_in}
+use Rattle.never_cut.specs.State.{is_running}
 use Rattle.never_cut.specs.Pending.{pending}
 use Rattle.never_cut.specs.Commit.{commit, committed, consumed, ended, end_at, expired, is_expired}
 use Rattle.never_cut.specs.Entries.{ArePassed, InScan, MayLook, fed_by, next_event, looked, pushed, with_accepted, with_refused, with_skipped}
@@ -21,13 +22,29 @@ AgreeFrom floor one two = (i k : ℕ) → floor i ≤ k → slice_index (reading
 abbrev pub IsAbove : (floor : ℕ → ℕ) → Model → Type 0
 IsAbove floor m = (i : ℕ) → floor i ≤ (source_of m i).next
 
--- the states differ by what a cut loses alone, and the second has the scan of the first, or none
+-- a source that has a mark in the second list has it in the first one too
+abbrev pub AreMarked : (xs ys : List SourceModel) → Type 0
+AreMarked xs ys = (i : ℕ) → (get_or ys i no_source).refused ≡ true → (get_or xs i no_source).refused ≡ true
+
+-- the states differ by what a cut loses alone: the second has the scan of the first, or none, and no mark that the first hasn't
 pub record IsAlike (a b : Model) : Type 0 where
   pub same : without_scan a ≡ without_scan b
   pub scan : (b.scan ≡ None) ⊎ (b.scan ≡ a.scan)
+  pub marks : AreMarked a.sources b.sources
+
+set_marks : (xs ys : List SourceModel) (j : ℕ) (x y : SourceModel) → length xs ≡ length ys → AreMarked xs ys → (y.refused ≡ true → x.refused ≡ true) →
+    AreMarked (set xs j x) (set ys j y)
+set_marks [] [] j x y long marks mark i is = marks i is
+set_marks [] (b ∷ ys) j x y long marks mark i is = absurd (omega arith)
+set_marks (a ∷ xs) [] j x y long marks mark i is = absurd (omega arith)
+set_marks (a ∷ xs) (b ∷ ys) zero x y long marks mark zero is = mark is
+set_marks (a ∷ xs) (b ∷ ys) zero x y long marks mark (suc i) is = marks (suc i) is
+set_marks (a ∷ xs) (b ∷ ys) (suc j) x y long marks mark zero is = marks 0 is
+set_marks (a ∷ xs) (b ∷ ys) (suc j) x y long marks mark (suc i) is = set_marks xs ys j x y (omega arith) (λ k. marks (suc k)) mark i is
 
 -- a source that has settled more
-set_rises : (xs : List SourceModel) (i j : ℕ) (s : SourceModel) → (get_or xs j no_source).next ≤ s.next → (get_or xs i no_source).next ≤ (get_or (set xs j s) i no_source).next
+set_rises : (xs : List SourceModel) (i j : ℕ) (s : SourceModel) → (get_or xs j no_source).next ≤ s.next →
+    (get_or xs i no_source).next ≤ (get_or (set xs j s) i no_source).next
 set_rises [] i j s le = omega arith
 set_rises (x ∷ xs) zero zero s le = le
 set_rises (x ∷ xs) zero (suc j) s le = omega arith
@@ -45,9 +62,13 @@ rises program readings m (Look t) i = omega arith
 rises program readings m (Commit t) i = let same = ap (λ (xs : List SourceModel). (get_or xs i no_source).next) (commit-sources program t.0 m) in omega arith
 rises program readings m (Release t) i = omega arith
 
-pub rises_after : (program : Program) (readings : Readings) (m : Model) (entries : List Entry) (i : ℕ) → (source_of m i).next ≤ (source_of (after program readings m entries) i).next
+pub rises_after : (program : Program) (readings : Readings) (m : Model) (entries : List Entry) (i : ℕ) →
+    (source_of m i).next ≤ (source_of (after program readings m entries) i).next
 rises_after program readings m [] i = omega arith
-rises_after program readings m (e ∷ entries) i = let one = rises program readings m e i in let more = rises_after program readings (effect program readings m e) entries i in omega arith
+rises_after program readings m (e ∷ entries) i =
+    let one = rises program readings m e i in
+    let more = rises_after program readings (effect program readings m e) entries i in
+    omega arith
 
 -- an element's image
 pub image_at : (xs : List SourceModel) (i : ℕ) → get_or (map unmarked xs) i no_source ≡ unmarked (get_or xs i no_source)
@@ -59,12 +80,15 @@ image_at (x ∷ xs) (suc i) = image_at xs i
 abbrev with_sources : List SourceModel → Model → Model
 with_sources sources m = record m { sources = sources }
 
-commit_apart : (program : Program) (t : ℕ) (sources : List SourceModel) (m : Model) → commit program t (with_sources sources m) ≡ with_sources sources (commit program t m)
+commit_apart : (program : Program) (t : ℕ) (sources : List SourceModel) (m : Model) →
+    commit program t (with_sources sources m) ≡ with_sources sources (commit program t m)
 commit_apart program t sources m = by_scan m.scan
   where
     by_end : (late running : Bool) (e : Event) (time : ℕ) →
-        (record (cond late (expired t e (with_sources sources m)) (ended t e time (end_at program m t e time) (consumed running e (with_sources sources m)))) { commits = m.commits + 1; scan = None })
-        ≡ with_sources sources (record (cond late (expired t e m) (ended t e time (end_at program m t e time) (consumed running e m))) { commits = m.commits + 1; scan = None })
+        (record (cond late (expired t e (with_sources sources m))
+        (ended t e time (end_at program m t e time) (consumed running e (with_sources sources m)))) { commits = m.commits + 1; scan = None })
+        ≡ with_sources sources
+        (record (cond late (expired t e m) (ended t e time (end_at program m t e time) (consumed running e m))) { commits = m.commits + 1; scan = None })
     by_end true running e time = refl
     by_end false true e time = refl
     by_end false false e time = refl
@@ -76,7 +100,11 @@ commit_apart program t sources m = by_scan m.scan
     by_pending scan (Some e) = by_end (is_expired program m t scan.time) (is_running (thread_of m t)) e scan.time
 
     by_scan : (o : Option ScanModel) →
-        elim o [ None ↦ with_sources sources m | Some scan ↦ elim (pending program m t) [ None ↦ with_sources sources m | Some e ↦ committed program t e scan.time (with_sources sources m) ] ]
+        elim o [
+          | None ↦ with_sources sources m
+          | Some scan ↦ elim
+              (pending program m t) [ None ↦ with_sources sources m | Some e ↦ committed program t e scan.time (with_sources sources m) ]
+        ]
         ≡ with_sources sources (elim o [ None ↦ m | Some scan ↦ elim (pending program m t) [ None ↦ m | Some e ↦ committed program t e scan.time m ] ])
     by_scan None = refl
     by_scan (Some scan) = by_pending scan (pending program m t)
@@ -89,8 +117,19 @@ looked_on t o = elim o [ None ↦ None | Some scan ↦ Some (looked t scan) ]
 abbrev with_both : Model → List SourceModel → Option ScanModel → Model
 with_both m sources scan = record m { sources = sources; scan = scan }
 
-module _ (program : Program) (one two : Readings) (floor : ℕ → ℕ) (agree : AgreeFrom floor one two) where
-  module _ (a : Model) (bs : List SourceModel) (sc : Option ScanModel) (same : map unmarked a.sources ≡ map unmarked bs) (scan : (sc ≡ None) ⊎ (sc ≡ a.scan)) where
+-- what a scan allows, if there is one
+in_scan : (o : Option ScanModel) (P Q : ScanModel → Type 0) → ((x : ScanModel) → P x → Q x) → elim o as (λ _. Type 0) [ None ↦ ⊥ | Some x ↦ P x ] →
+    elim o as (λ _. Type 0) [ None ↦ ⊥ | Some x ↦ Q x ]
+in_scan None P Q all may = may
+in_scan (Some x) P Q all may = all x may
+
+-- each source has as many readings
+abbrev pub AreAsMany : Program → (one two : Readings) → Type 0
+AreAsMany program one two = (i : ℕ) → i < length program.sources → length (readings_of two i) ≡ length (readings_of one i)
+
+module _ (program : Program) (one two : Readings) (floor : ℕ → ℕ) (agree : AgreeFrom floor one two) (many : AreAsMany program one two) where
+  module _ (a : Model) (bs : List SourceModel) (sc : Option ScanModel) (same : map unmarked a.sources ≡ map unmarked bs)
+      (scan : (sc ≡ None) ⊎ (sc ≡ a.scan)) (marks : AreMarked a.sources bs) where
     abbrev b : Model
     b = with_both a bs sc
 
@@ -100,6 +139,40 @@ module _ (program : Program) (one two : Readings) (floor : ℕ → ℕ) (agree :
     -- sources that are set alike
     sources_set : (i : ℕ) (x y : SourceModel) → unmarked x ≡ unmarked y → map unmarked (set a.sources i x) ≡ map unmarked (set bs i y)
     sources_set i x y is = map-set unmarked a.sources i x ∙ ((λ k. set (same k) i (is k)) ∙ sym (map-set unmarked bs i y))
+
+    long : length a.sources ≡ length bs
+    long = sym (length-map a.sources unmarked) ∙ (ap (λ (l : List SourceModel). length l) same ∙ length-map bs unmarked)
+
+    -- a reading is there with both
+    has_reading : (i : ℕ) → i < length program.sources → (source_of b i).next < length (readings_of two i) → (source_of a i).next < length (readings_of one i)
+    has_reading i lt there = let next = ap (λ (x : SourceModel). x.next) (source_same i) in omega (arith, many i lt, next, there)
+
+    -- what is legal in the second state is so in the first
+    legal_alike : (e : Entry) → Legal program two b e → Legal program one a e
+    legal_alike (Push i) legal = (legal.0, has_reading i.0 legal.0 legal.1, legal.2)
+    legal_alike (Refuse i) legal = (legal.0, has_reading i.0 legal.0 legal.1, legal.2)
+    legal_alike (Skip i) legal = (legal.0, marks i.0 legal.1)
+    legal_alike (Tick by) legal = legal
+    legal_alike Scan legal = legal
+    legal_alike (Look t) legal = (legal.0, by_scan scan legal.1)
+      where
+        by_scan : (sc ≡ None) ⊎ (sc ≡ a.scan) → InScan b (λ x. MayLook a x t.0) → InScan a (λ x. MayLook a x t.0)
+        by_scan (inl none) may = absurd (subst (λ (o : Option ScanModel). InScan (with_both a bs o) (λ x. MayLook a x t.0)) none may)
+        by_scan (inr is) may = subst (λ (o : Option ScanModel). InScan (with_both a bs o) (λ x. MayLook a x t.0)) is may
+    legal_alike (Commit t) legal = let both = by_scan scan legal.1 legal.2 in (legal.0, both.0, both.1)
+      where
+        passed : (x : ScanModel) → ArePassed program b x t.0 → ArePassed program a x t.0
+        passed x all u lt higher = let one = all u lt higher in record { looked = one.looked; idle = one.idle; nothing = one.nothing }
+
+        by_scan : (sc ≡ None) ⊎ (sc ≡ a.scan) → InScan b (λ x. ArePassed program b x t.0) → IsSome (pending program b t.0) →
+            InScan a (λ x. ArePassed program a x t.0) × IsSome (pending program a t.0)
+        by_scan (inl none) may waits = absurd (subst (λ (o : Option ScanModel). InScan (with_both a bs o) (λ x. ArePassed program b x t.0)) none may)
+        by_scan (inr is) may waits = (
+          in_scan a.scan (λ x. ArePassed program b x t.0) (λ x. ArePassed program a x t.0) passed
+              (subst (λ (o : Option ScanModel). InScan (with_both a bs o) (λ x. ArePassed program b x t.0)) is may),
+          subst (λ (o : Option ScanModel). IsSome (pending program (with_both a bs o) t.0)) is waits,
+        )
+    legal_alike (Release t) legal = legal
 
     event_same : (i : ℕ) → floor i ≤ (source_of b i).next → next_event one a i ≡ next_event two b i
     event_same i above =
@@ -111,25 +184,37 @@ module _ (program : Program) (one two : Readings) (floor : ℕ → ℕ) (agree :
     step_alike (Push i) above legal =
         let event = event_same i.0 (above i.0) in
         let s = source_same i.0 in
-        let sources = sources_set i.0 (with_accepted (source_of a i.0)) (with_accepted (source_of b i.0)) (λ k. record { next = (s k).next + 1; accepted = (s k).accepted + 1; refused = false }) in
+        let sources = sources_set i.0 (with_accepted (source_of a i.0)) (with_accepted (source_of b i.0))
+        (λ k. record { next = (s k).next + 1; accepted = (s k).accepted + 1; refused = false }) in
         record {
           same = λ k. record (without_scan (effect program one a (Push i))) {
             threads = set a.threads (source_thread program i.0) (pushed (event k) (fed_by program a i.0));
             sources = sources k;
           };
           scan = scan;
+          marks = set_marks a.sources bs i.0 (with_accepted (source_of a i.0)) (with_accepted (source_of b i.0)) long marks (λ is. is);
         }
     step_alike (Refuse i) above legal =
         let s = source_same i.0 in
         let sources = sources_set i.0 (with_refused (source_of a i.0)) (with_refused (source_of b i.0)) s in
-        record { same = λ k. record (without_scan a) { sources = sources k }; scan = scan }
+        record {
+          same = λ k. record (without_scan a) { sources = sources k };
+          scan = scan;
+          marks = set_marks a.sources bs i.0 (with_refused (source_of a i.0)) (with_refused (source_of b i.0)) long marks (λ is. is);
+        }
     step_alike (Skip i) above legal =
         let s = source_same i.0 in
-        let sources = sources_set i.0 (with_skipped (source_of a i.0)) (with_skipped (source_of b i.0)) (λ k. record { next = (s k).next + 1; accepted = (s k).accepted; refused = false }) in
-        record { same = λ k. record (without_scan a) { sources = sources k }; scan = scan }
-    step_alike (Tick by) above legal = record { same = λ k. record (without_scan (effect program one a (Tick by))) { sources = same k }; scan = scan }
-    step_alike Scan above legal = record { same = λ k. record (without_scan a) { sources = same k }; scan = inr refl }
-    step_alike (Look t) above legal = record { same = λ k. record (without_scan a) { sources = same k }; scan = by_scan scan legal.1 }
+        let sources = sources_set i.0 (with_skipped (source_of a i.0)) (with_skipped (source_of b i.0))
+        (λ k. record { next = (s k).next + 1; accepted = (s k).accepted; refused = false }) in
+        record {
+          same = λ k. record (without_scan a) { sources = sources k };
+          scan = scan;
+          marks = set_marks a.sources bs i.0 (with_skipped (source_of a i.0)) (with_skipped (source_of b i.0)) long marks (λ is. is);
+        }
+    step_alike (Tick by) above legal =
+        record { same = λ k. record (without_scan (effect program one a (Tick by))) { sources = same k }; scan = scan; marks = marks }
+    step_alike Scan above legal = record { same = λ k. record (without_scan a) { sources = same k }; scan = inr refl; marks = marks }
+    step_alike (Look t) above legal = record { same = λ k. record (without_scan a) { sources = same k }; scan = by_scan scan legal.1; marks = marks }
       where
         by_scan : (sc ≡ None) ⊎ (sc ≡ a.scan) → InScan b (λ x. MayLook b x t.0) → (looked_on t sc ≡ None) ⊎ (looked_on t sc ≡ looked_on t a.scan)
         by_scan (inl none) legal = inl (ap (looked_on t) none)
@@ -141,10 +226,16 @@ module _ (program : Program) (one two : Readings) (floor : ℕ → ℕ) (agree :
         by_scan (inr is) legal =
             subst (λ (o : Option ScanModel). IsAlike (commit program t.0 a) (commit program t.0 (with_both a bs o))) (sym is)
             (subst (λ (m : Model). IsAlike (commit program t.0 a) m) (sym (commit_apart program t.0 bs a))
-            (record { same = λ k. record (without_scan (commit program t.0 a)) { sources = (ap (map unmarked) (commit-sources program t.0 a) ∙ same) k }; scan = inr refl }))
-    step_alike (Release t) above legal = record { same = λ k. record (without_scan (effect program one a (Release t))) { sources = same k }; scan = scan }
+            (record {
+              same = λ k. record (without_scan (commit program t.0 a)) { sources = (ap (map unmarked) (commit-sources program t.0 a) ∙ same) k };
+              scan = inr refl;
+              marks = subst (λ (l : List SourceModel). AreMarked l bs) (sym (commit-sources program t.0 a)) marks;
+            }))
+    step_alike (Release t) above legal =
+        record { same = λ k. record (without_scan (effect program one a (Release t))) { sources = same k }; scan = scan; marks = marks }
 
-  step : (a b : Model) (e : Entry) → IsAlike a b → IsAbove floor b → Legal program two b e → IsAlike (effect program one a e) (effect program two b e)
+  step : (a b : Model) (e : Entry) → IsAlike a b → IsAbove floor b → Legal program two b e →
+      Legal program one a e × IsAlike (effect program one a e) (effect program two b e)
   step a b e alike above legal =
       let is : with_both a b.sources b.scan ≡ b = λ k. record {
         threads = (alike.same k).threads;
@@ -156,11 +247,17 @@ module _ (program : Program) (one two : Readings) (floor : ℕ → ℕ) (agree :
         commits = (alike.same k).commits;
         scan = b.scan;
       } in
-      subst (λ (m : Model). IsAbove floor m → Legal program two m e → IsAlike (effect program one a e) (effect program two m e)) is
-      (step_alike a b.sources b.scan (ap (λ (m : Model). m.sources) alike.same) alike.scan e) above legal
+      let sources = ap (λ (m : Model). m.sources) alike.same in
+      subst (λ (m : Model). IsAbove floor m → Legal program two m e → Legal program one a e × IsAlike (effect program one a e) (effect program two m e)) is
+      (λ over may.
+      (legal_alike a b.sources b.scan sources alike.scan alike.marks e may, step_alike a b.sources b.scan sources alike.scan alike.marks e over may)) above legal
 
-  pub after_alike : (a b : Model) (entries : List Entry) → IsAlike a b → IsAbove floor b → IsLegal program two b entries → IsAlike (after program one a entries) (after program two b entries)
-  after_alike a b [] alike above legal = alike
+  -- what follows the second state legally follows the first one legally, and leads to states that are alike
+  pub after_alike : (a b : Model) (entries : List Entry) → IsAlike a b → IsAbove floor b → IsLegal program two b entries →
+      IsLegal program one a entries × IsAlike (after program one a entries) (after program two b entries)
+  after_alike a b [] alike above legal = (tt, alike)
   after_alike a b (e ∷ entries) alike above legal =
-      after_alike (effect program one a e) (effect program two b e) entries (step a b e alike above legal.0)
-      (λ i. let more = rises program two b e i in let low = above i in omega arith) legal.1
+      let one_more = step a b e alike above legal.0 in
+      let rest = after_alike (effect program one a e) (effect program two b e) entries one_more.1
+      (λ i. let more = rises program two b e i in let low = above i in omega arith) legal.1 in
+      ((one_more.0, rest.0), rest.1)

@@ -41,5 +41,5 @@ pub use Rattle.kernel_core.specs.Record.{begun, charge_of, journal_of, not_begun
 pub use Rattle.kernel_core.specs.Stands.{BoardStands, memory, state}
 pub use Rattle.kernel_core.specs.kept.Holds.{HasSize, Holds}
 pub use Rattle.going_on.specs.Divided.{Division, IsDivided, IsSplit, all_behind, behind_settled, divided, first_part, first_run, second_after, second_part, second_run, state_left, whole_after, whole_run}
-pub use Rattle.going_on.specs.GoesOn.{AreJobs, EndsAsWhole, EveryJobDivides, GoesAsWhole, IsAsWhole, IsWhole, StandsAsWhole, StartsFromWhole}
+pub use Rattle.going_on.specs.GoesOn.{AreJobs, ContinuesWhole, EndsAsWhole, EveryJobDivides, FollowsFirst, GoesAsWhole, IsAsWhole, IsWhole, StandsAsWhole, StartsFromWhole}
 pub use Rattle.going_on.specs.Lost.{unmarked, without_scan}

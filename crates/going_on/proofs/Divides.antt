@@ -1,11 +1,11 @@
 -- Each job can be divided behind any of its charges.
-use Rattle.going_on.proofs.Common.{◌≡◌, ℕ, zero, suc, ◌+◌, ◌<◌, List, [], ◌∷◌, ◌++◌, length, map, refl, sym, ap, ◌∙◌, subst, arith, length-map, Readings, readings_of, SourceModel, no_source, source_of, get_or, Charge, JobParts, IsJob, AreFirstWords, Model, state, memory, shape, EveryJobDivides, Division, IsDivided, IsSplit, all_behind, behind_settled, divided, state_left, unmarked, without_scan}
+use Rattle.going_on.proofs.Common.{◌≡◌, ℕ, zero, suc, ◌<◌, List, [], ◌∷◌, ◌++◌, length, refl, ap, ◌∙◌, subst, arith, Readings, readings_of, SourceModel, no_source, get_or, Charge, JobParts, IsJob, AreFirstWords, Model, state, memory, shape, EveryJobDivides, Division, IsDivided, IsSplit, all_behind, behind_settled, divided, state_left, without_scan}
 use Rattle.fram_words.specs.Places.{Memory}
 use Rattle.fram_words.specs.Shape.{memory_of}
 use Rattle.job_parts.specs.Job.{words_in}
 use Rattle.never_cut.specs.ReadOff.{IsReadOff}
 use Rattle.going_on.proofs.Wholes.{s, at_split}
-use Rattle.going_on.proofs.Starts.{sound_at, read_there, split_words, split_state}
+use Rattle.going_on.proofs.Starts.{read_there, split_words, split_state}
 
 -- as many lists of readings as sources, and each behind those that its source has settled
 behind_count : (sources : List SourceModel) (readings : Readings) → length (all_behind sources readings) ≡ length sources
@@ -13,14 +13,16 @@ behind_count [] readings = refl
 behind_count (x ∷ sources) [] = let more = behind_count sources [] in omega (arith, more)
 behind_count (x ∷ sources) (values ∷ readings) = let more = behind_count sources readings in omega (arith, more)
 
-behind_each : (sources : List SourceModel) (readings : Readings) (i : ℕ) → i < length sources → readings_of (all_behind sources readings) i ≡ behind_settled (get_or sources i no_source).next (readings_of readings i)
+behind_each : (sources : List SourceModel) (readings : Readings) (i : ℕ) → i < length sources →
+    readings_of (all_behind sources readings) i ≡ behind_settled (get_or sources i no_source).next (readings_of readings i)
 behind_each [] readings i lt = absurd (omega arith)
 behind_each (x ∷ sources) [] zero lt = refl
 behind_each (x ∷ sources) [] (suc i) lt = behind_each sources [] i (omega arith)
 behind_each (x ∷ sources) (values ∷ readings) zero lt = refl
 behind_each (x ∷ sources) (values ∷ readings) (suc i) lt = behind_each sources readings i (omega arith)
 
-module _ (job : JobParts) (words : List ℕ) (front back : List Charge) (is : IsJob job) (first : AreFirstWords job.program job.start words) (charges : job.charges ≡ front ++ back) where
+module _ (job : JobParts) (words : List ℕ) (front back : List Charge) (is : IsJob job) (first : AreFirstWords job.program job.start words)
+    (charges : job.charges ≡ front ++ back) where
   abbrev d : Division
   d = divided job words front back
 

@@ -1,5 +1,5 @@
 -- The second run goes on as the whole does.
-use Rattle.going_on.proofs.Common.{◌≡◌, ◌⊎◌, inl, inr, ℕ, zero, suc, ◌+◌, ◌<◌, ◌≤◌, Bool, List, [], ◌∷◌, ◌++◌, length, take, if◌then◌else◌, refl, sym, ap, ◌∙◌, subst, arith, take_all, append-nil, length-set, length-replicate, slice_index, Actor, Access, Charge, Board, Cut, Move, Setup, readings_of, access_at, access_of, is_left, point_of, port_of, Port, Row, Stage, LoadSrc, LoadSlots, LoadAck, LoadTail, LoadSlot, Publish, MoveTail, HelpTail, StoreSkip, StoreAccepted, publication, KnowsAt, near, Kept, source_of, cut, finds, first_board, first_kernel, journal, made_by, moved_by, moves, row_of, run, run_first, sides, AreMoves, IsActor, ChargeRecord, begun, charge_of, journal_of, not_begun, entry_of_source, memory, state, Holds, EndsAsWhole, GoesAsWhole, IsAsWhole, IsWhole, Division, IsDivided, first_run, second_after, second_run, whole_after, whole_run}
+use Rattle.going_on.proofs.Common.{◌≡◌, ◌⊎◌, inl, inr, ℕ, zero, suc, ◌+◌, ◌<◌, List, [], ◌∷◌, ◌++◌, length, take, if◌then◌else◌, refl, sym, ap, ◌∙◌, subst, arith, take_all, append-nil, length-set, length-replicate, slice_index, Actor, Access, Charge, Board, Cut, Move, Setup, readings_of, access_at, is_left, point_of, port_of, Port, Stage, LoadSrc, LoadSlots, LoadAck, LoadTail, LoadSlot, Publish, MoveTail, HelpTail, StoreSkip, StoreAccepted, publication, KnowsAt, near, source_of, cut, finds, first_board, first_kernel, journal, made_by, moved_by, moves, row_of, sides, AreMoves, IsActor, ChargeRecord, begun, charge_of, journal_of, not_begun, entry_of_source, memory, state, EndsAsWhole, GoesAsWhole, IsAsWhole, IsWhole, Division, IsDivided, first_run, second_after, second_run, whole_run}
 use Rattle.ink_base.specs.declared.actor.Actor.TheVariants as actors
 use Rattle.source_laws.specs.Model.{places_for}
 use Rattle.kernel_core.specs.declared.made.Made.{Made}
@@ -8,11 +8,12 @@ use Rattle.kernel_core.specs.Views.{seen}
 use Rattle.kernel_core.proofs.Runs.{moves_taken}
 use Rattle.std.specs.Prelude.{Some}
 use Rattle.going_on.proofs.Parts.{widened, other, AllAgree, part_cut, part_moves, joined_journal}
-use Rattle.going_on.proofs.Wholes.{s, count, at_split, behind, unbegun, whole_is, end_is, holds, back_moves, first_begun}
-use Rattle.going_on.proofs.Starts.{floor, above_floor, lengths_are, agree_from, split_charges, split_begun, start_words}
+use Rattle.going_on.proofs.Wholes.{s, at_split, behind, unbegun, whole_is, end_is, holds, back_moves, first_begun}
+use Rattle.going_on.proofs.Starts.{above_floor, lengths_are, agree_from, split_charges, split_begun, start_words}
 
 -- a row's access looks at its next reading alone, and at that only where it publishes it
-same_access : (port : Port) (one two : List ℕ) (a k : ℕ) (stage : Stage) → ((p : ℕ) → stage ≡ Publish p → slice_index one k ≡ slice_index two k) → access_at port one a k stage ≡ access_at port two a k stage
+same_access : (port : Port) (one two : List ℕ) (a k : ℕ) (stage : Stage) → ((p : ℕ) → stage ≡ Publish p → slice_index one k ≡ slice_index two k) →
+    access_at port one a k stage ≡ access_at port two a k stage
 same_access port one two a k LoadSrc same = refl
 same_access port one two a k (LoadSlots n seen) same = refl
 same_access port one two a k (LoadAck seen) same = refl
@@ -40,17 +41,17 @@ module _ (d : Division) (h : IsDivided d) where
   -- a source that publishes a reading publishes the next one
   publishes : (n i p : ℕ) → (row_of (behind d n) i).stage ≡ Publish p → (source_of (state (s d) (behind d n)) i).next ≡ (row_of (behind d n) i).next
   publishes n i p is =
-      let b : Board = behind d n in
-      let row : Row = row_of (behind d n) i in
       let part = (holds d h.split n).kept.sources i in
       let knows = subst (λ (stage : Stage). KnowsAt i (places_for (sides (s d)) i) (length (readings_of d.job.readings i))
-          (near (sides (s d)) (seen (memory (s d) (behind d n)) (state (s d) (behind d n)) (row_of (behind d n))) i) (row_of (behind d n) i).accepted (row_of (behind d n) i).next stage) is part.knows in
+      (near (sides (s d)) (seen (memory (s d) (behind d n)) (state (s d) (behind d n)) (row_of (behind d n))) i) (row_of (behind d n) i).accepted
+      (row_of (behind d n) i).next stage) is part.knows in
       knows.0.next
 
   pub all_agree : (n : ℕ) → AllAgree (s d) d.readings (behind d n)
   all_agree n i lt = (
     lengths_are d h i lt,
-    same_access (port_of (sides (s d)) i) (readings_of d.readings i) (readings_of d.job.readings i) (row_of (behind d n) i).accepted (row_of (behind d n) i).next (row_of (behind d n) i).stage
+    same_access (port_of (sides (s d)) i) (readings_of d.readings i) (readings_of d.job.readings i) (row_of (behind d n) i).accepted
+        (row_of (behind d n) i).next (row_of (behind d n) i).stage
         (λ p is. sym (agree_from d h i (row_of (behind d n) i).next (let le = above_floor d h n i in omega (arith, publishes n i p is, le)))),
   )
 
@@ -82,7 +83,8 @@ module _ (d : Division) (h : IsDivided d) where
     count_is = length-set anew.charges 0 (begun off (charge_of anew.charges 0)) ∙ length-replicate (length d.back) (not_begun (length (s d).program.sources))
 
     first_cut : cut (s d) (at_split d) off ≡ widened old [] begins
-    first_cut = cut_same off ∙ part_cut old [] (s d) d.readings d.start.model anew off (let some = back_are.0 in omega (arith, length-replicate (length d.back) (not_begun (length (s d).program.sources))))
+    first_cut = cut_same off ∙ part_cut old [] (s d) d.readings d.start.model anew off
+        (let some = back_are.0 in omega (arith, length-replicate (length d.back) (not_begun (length (s d).program.sources))))
 
     agree_behind : (n k : ℕ) → AllAgree (s d) d.readings (moved_by (s d) (widened old [] begins) (take k (take n rest)))
     agree_behind n k =
@@ -141,10 +143,15 @@ module _ (d : Division) (h : IsDivided d) where
   abbrev access_makes : Board → ℕ → (number : ℕ) → Access → Made
   access_makes b i number a =
       if is_left number (row_of b i)
-      then record { access = Some a; word = finds b a; entry = entry_of_source i (point_of (port_of (sides (s d)) i).queue.places (row_of b i).stage (finds b a)) }
+      then record {
+        access = Some a;
+        word = finds b a;
+        entry = entry_of_source i (point_of (port_of (sides (s d)) i).queue.places (row_of b i).stage (finds b a));
+      }
       else nothing_made
 
-  made_same : (b : Board) (actor : Actor) → IsActor (s d) actor → AllAgree (s d) d.readings (widened old [] b) → made_by t b actor ≡ made_by (s d) (widened old [] b) actor
+  made_same : (b : Board) (actor : Actor) → IsActor (s d) actor → AllAgree (s d) d.readings (widened old [] b) →
+      made_by t b actor ≡ made_by (s d) (widened old [] b) actor
   made_same b actors.Kernel is agree = refl
   made_same b (actors.Source i) is agree = let same = agree i.0 is in λ k. access_makes b i.0 (same.0 k) (same.1 k)
   made_same b actors.Clock is agree = refl
@@ -152,7 +159,8 @@ module _ (d : Division) (h : IsDivided d) where
   same_made : (n : ℕ) (actor : Actor) → IsActor (s d) actor → 0 < (second_after d n).begun → made_by t (second_after d n) actor ≡ made_by (s d) (behind d n) actor
   same_made n actor is some = elim (goes n) [
     | inl none ↦ absurd (let zero = ap (λ (b : Board). b.begun) none.1 in omega arith)
-    | inr same ↦ made_same (second_after d n) actor is (subst (λ (b : Board). AllAgree (s d) d.readings b) same (all_agree n)) ∙ ap (λ (b : Board). made_by (s d) b actor) (sym same)
+    | inr same ↦ made_same (second_after d n) actor is (subst (λ (b : Board). AllAgree (s d) d.readings b) same (all_agree n))
+        ∙ ap (λ (b : Board). made_by (s d) b actor) (sym same)
   ]
 
   as_whole : (n : ℕ) → IsAsWhole d n

@@ -1,6 +1,5 @@
 -- Outputs in the order of their stamps, each stamp being of one thread, are told by those of each thread.
-use Rattle.going_on.proofs.Common.{◌≡◌, ℕ, zero, suc, ◌<◌, ◌≤◌, ◌==◌, cond, Bool, true, false, List, [], ◌∷◌, length, drop, refl, sym, ap, ◌∙◌, subst, arith, eq-eqb, get_or, All, filter}
-use Rattle.std.proofs.lemmas.Bool.{cases_Bool}
+use Rattle.going_on.proofs.Common.{◌≡◌, ℕ, suc, ◌<◌, ◌≤◌, ◌==◌, cond, Bool, true, false, List, [], ◌∷◌, length, drop, refl, sym, ap, ◌∙◌, subst, arith, eq-eqb, get_or, All}
 use Rattle.std.specs.List.Sorted.{IsNonDecreasingBy}
 use Rattle.ink_base.specs.declared.output.Output.{Output}
 use Rattle.never_cut.specs.Outputs.{outputs_in}
@@ -51,7 +50,8 @@ rise_rest x xs rise i j d le lt = rise (suc i) (suc j) d (omega arith) (omega ar
 own_rest : (x : Output) (xs : List Output) → AreOwn (x ∷ xs) → AreOwn xs
 own_rest x xs own i d lt j e less = own (suc i) d (omega arith) (suc j) e (omega arith)
 
-module _ (x y : Output) (xs ys : List Output) (rise : Rise (x ∷ xs)) (rises : Rise (y ∷ ys)) (own : AreOwn (y ∷ ys)) (same : (t : ℕ) → outputs_in t (x ∷ xs) ≡ outputs_in t (y ∷ ys)) where
+module _ (x y : Output) (xs ys : List Output) (rise : Rise (x ∷ xs)) (rises : Rise (y ∷ ys)) (own : AreOwn (y ∷ ys))
+    (same : (t : ℕ) → outputs_in t (x ∷ xs) ≡ outputs_in t (y ∷ ys)) where
   -- each first output is among the others
   there : (j : ℕ) × (j < length (y ∷ ys)) × ((d : Output) → get_or (y ∷ ys) j d ≡ x)
   there = found x.thread.0 (y ∷ ys) x (outputs_in x.thread.0 xs) (sym (same x.thread.0) ∙ own_first x xs)

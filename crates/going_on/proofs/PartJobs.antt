@@ -1,5 +1,5 @@
 -- The parts of a divided job are jobs.
-use Rattle.going_on.proofs.Common.{◌≡◌, inl, inr, ℕ, ◌+◌, ◌-◌, ◌^◌, ◌<◌, ◌≤◌, List, ◌++◌, length, drop, replicate, get_or, Some, None, refl, sym, ap, ◌∙◌, subst, arith, All, All-append, All-drop, length-append, length-drop, length-replicate, get_or-append-add, get_or-append_right, get_or-drop, get_or_append_left, sum_by-append, Charge, JobParts, IsJob, AreCharges, AreReadings, IsRightCharge, charge_turns, item_turns, readings_of, source_of, behind_settled, []}
+use Rattle.going_on.proofs.Common.{◌≡◌, ℕ, ◌+◌, ◌-◌, ◌^◌, ◌<◌, ◌≤◌, List, ◌++◌, length, drop, replicate, get_or, ap, ◌∙◌, subst, arith, All, All-append, All-drop, length-append, length-drop, length-replicate, get_or-append-add, get_or-append_right, get_or-drop, get_or_append_left, sum_by-append, Charge, AreCharges, AreReadings, IsRightCharge, charge_turns, item_turns, readings_of, behind_settled, []}
 use Rattle.std.proofs.lemmas.List.{get_or_default}
 use Rattle.std.proofs.lemmas.List.Elements.{All-replicate}
 
@@ -45,7 +45,8 @@ settled_at next readings k le =
 pub settled_right : (next : ℕ) (readings : List ℕ) → next ≤ length readings → AreReadings readings → AreReadings (behind_settled next readings)
 settled_right next readings le are = record {
   count = let most = are.count in omega (arith, settled_length next readings le, most);
-  below = All-append (λ value. value < 2 ^ 32) (replicate next 0) (drop next readings) (All-replicate (λ value. value < 2 ^ 32) next 0 (omega arith)) (All-drop (λ value. value < 2 ^ 32) next readings are.below);
+  below = All-append (λ value. value < 2 ^ 32) (replicate next 0) (drop next readings) (All-replicate (λ value. value < 2 ^ 32) next 0 (omega arith))
+      (All-drop (λ value. value < 2 ^ 32) next readings are.below);
 }
 
 -- each list of readings is right, if it is at the number of a source

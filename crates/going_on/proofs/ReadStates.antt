@@ -1,25 +1,23 @@
 -- The state that is read off words which stand for a state is that state without what a cut loses.
-use Rattle.going_on.proofs.Common.{◌≡◌, ◌⊎◌, inl, inr, ℕ, zero, suc, ◌+◌, ◌^◌, ◌<◌, ◌≤◌, Bool, true, false, List, [], ◌∷◌, ◌++◌, length, map, get_or, Option, Some, None, refl, sym, ap, ◌∙◌, subst, arith, All, All-append, ext_get_or, get_or-map, length-map, eqb-true, Entry, Program, Model, SourceModel, thread_of, source_of, no_source, Readings, readings_of, Legal, effect, IsLegal, after, IsSound, unmarked, without_scan}
+use Rattle.going_on.proofs.Common.{◌≡◌, ◌⊎◌, inl, inr, ℕ, zero, suc, ◌<◌, Bool, true, false, List, [], ◌∷◌, ◌++◌, length, map, get_or, Option, Some, None, refl, sym, ap, ◌∙◌, subst, arith, All, All-append, ext_get_or, get_or-map, length-map, Entry, Program, Model, SourceModel, thread_of, source_of, no_source, Readings, Legal, effect, IsLegal, after, IsSound, unmarked, without_scan}
 use Rattle.ink_base.specs.declared.ids.ThreadId.{ThreadId}
-use Rattle.ink_base.specs.declared.ids.TaskId.{TaskId}
 use Rattle.ink_base.specs.declared.entry.Entry.TheVariants.{Push, Refuse, Skip, Tick, Scan, Look, Commit, Release}
 use Rattle.ink_base.specs.declared.event.Origin.{Origin}
 use Rattle.ink_base.specs.declared.event.Origin.TheVariants as origins
 use Rattle.ink_base.specs.declared.output.Output.{Output}
 use Rattle.std.specs.Prelude.{slice_get}
-use Rattle.std.proofs.lemmas.Bool.{cases_Bool}
 use Rattle.fram_words.specs.Places.{Memory, Src, Ack}
-use Rattle.push_core.specs.Queue.{Queue, Source, StandsSource}
+use Rattle.push_core.specs.Queue.{Queue, StandsSource}
 use Rattle.prog_check.specs.Accepted.{IsAccepted}
 use Rattle.prog_check.specs.Lookup.{source_thread}
 use Rattle.never_cut.specs.State.{queue_of, source_in}
 use Rattle.never_cut.specs.Stands.{Stands, StandsPrivate, flag}
-use Rattle.never_cut.specs.Sound.{HasShape, IsServed, IsQueued}
+use Rattle.never_cut.specs.Sound.{IsServed, IsQueued}
 use Rattle.never_cut.specs.Within.{Lasts}
 use Rattle.never_cut.specs.Ranges.{IsOwnOrigin}
 use Rattle.never_cut.specs.ReadOff.{HasEventOf, IsOutputOf, IsReadOff, told_queue, told_source, is_one_more}
 use Rattle.never_cut.specs.Image.{held_for}
-use Rattle.never_cut.specs.Laws.{IsStamped, commits_in, committing}
+use Rattle.never_cut.specs.Laws.{commits_in, committing}
 use Rattle.never_cut.proofs.ReadSources.{more_found, more_is}
 use Rattle.never_cut.proofs.Stamped.{stamps_by_commits}
 use Rattle.never_cut.proofs.ToldQueues.{queue_told}
@@ -29,9 +27,11 @@ use Rattle.going_on.proofs.Told.{IsTold, threads_are, pipes_are, timers_are, out
 IsKnown : Program → ThreadId → Type 0
 IsKnown program t = t.0 < length program.threads
 
-committing_known : (program : Program) (readings : Readings) (m : Model) (e : Entry) → Legal program readings m e → (k : ℕ) (t : ThreadId) → slice_get (committing e) k ≡ Some t → IsKnown program t
+committing_known : (program : Program) (readings : Readings) (m : Model) (e : Entry) → Legal program readings m e → (k : ℕ) (t : ThreadId) →
+    slice_get (committing e) k ≡ Some t → IsKnown program t
 unfolding IsKnown
-committing_known program readings m (Commit u) legal zero t is = subst (λ (o : Option ThreadId). elim o as (λ _. Type 0) [ None ↦ Unit {0} | Some x ↦ x.0 < length program.threads ]) is legal.0
+committing_known program readings m (Commit u) legal zero t is =
+    subst (λ (o : Option ThreadId). elim o as (λ _. Type 0) [ None ↦ Unit {0} | Some x ↦ x.0 < length program.threads ]) is legal.0
 committing_known program readings m (Commit u) legal (suc k) t is = cc
 committing_known program readings m (Push i) legal k t is = cc
 committing_known program readings m (Refuse i) legal k t is = cc
@@ -46,7 +46,8 @@ split_get [] ys k t is = inr (k, is)
 split_get (x ∷ xs) ys zero t is = inl is
 split_get (x ∷ xs) ys (suc k) t is = split_get xs ys k t is
 
-commits_known : (program : Program) (readings : Readings) (m : Model) (entries : List Entry) → IsLegal program readings m entries → (k : ℕ) (t : ThreadId) → slice_get (commits_in entries) k ≡ Some t → IsKnown program t
+commits_known : (program : Program) (readings : Readings) (m : Model) (entries : List Entry) → IsLegal program readings m entries →
+    (k : ℕ) (t : ThreadId) → slice_get (commits_in entries) k ≡ Some t → IsKnown program t
 commits_known program readings m [] legal k t is = cc
 commits_known program readings m (e ∷ entries) legal k t is = elim (split_get (committing e) (commits_in entries) k t is) [
   | inl here ↦ committing_known program readings m e legal.0 k t here
@@ -54,8 +55,10 @@ commits_known program readings m (e ∷ entries) legal k t is = elim (split_get 
 ]
 
 -- so its outputs are
-pub outputs_known : (program : Program) (readings : Readings) (first : Model) (entries : List Entry) → IsSound program readings first → All (IsOutputOf program) first.outputs →
-    IsLegal program readings first entries → IsSound program readings (after program readings first entries) → All (IsOutputOf program) (after program readings first entries).outputs
+pub outputs_known : (program : Program) (readings : Readings) (first : Model) (entries : List Entry) → IsSound program readings first →
+    All (IsOutputOf program) first.outputs →
+    IsLegal program readings first entries → IsSound program readings (after program readings first entries) →
+    All (IsOutputOf program) (after program readings first entries).outputs
 unfolding IsKnown
 outputs_known program readings first entries sound known legal later =
     let told = stamps_by_commits program readings first entries sound.stamps legal in
@@ -69,7 +72,8 @@ outputs_known program readings first entries sound known legal later =
 source_is : (a b : SourceModel) → source_in a ≡ source_in b → a ≡ b
 source_is a b is = λ k. record { next = (is k).next; accepted = (is k).accepted; refused = (is k).refused }
 
-module _ (program : Program) (readings : Readings) (words : Memory) (m : Model) (accepted : IsAccepted program) (sound : IsSound program readings m) (lasts : Lasts 0 m)
+module _ (program : Program) (readings : Readings) (words : Memory) (m : Model) (accepted : IsAccepted program) (sound : IsSound program readings m)
+    (lasts : Lasts 0 m)
     (stands : Stands words program m) (known : All (IsOutputOf program) m.outputs) where
   module _ (t : ℕ) (there : t < length program.threads) where
     -- a served event is one of the thread's own
@@ -82,7 +86,8 @@ module _ (program : Program) (readings : Readings) (words : Memory) (m : Model) 
     events_of : HasEventOf program m t
     events_of = record {
       idle = λ none. (sound.threads t there).idle none;
-      chain = λ task runs. let chain = (sound.threads t there).chain task runs in (chain.event, chain.is, own_served chain.event.origin chain.event.value chain.served);
+      chain = λ task runs. let chain = (sound.threads t there).chain task runs in
+          (chain.event, chain.is, own_served chain.event.origin chain.event.value chain.served);
     }
 
   told_model : IsTold program words m
@@ -96,7 +101,8 @@ module _ (program : Program) (readings : Readings) (words : Memory) (m : Model) 
     few = let most = accepted.counts.sources in omega arith
 
     stood : StandsSource i (words (Src i)) (words (Ack i)) (held_for program words i) (source_in (source_of m i))
-    stood = subst (λ (q : Queue). StandsSource i (words (Src i)) (words (Ack i)) q.held (source_in (source_of m i))) (sym queue_is) (stands.shared.sources i there)
+    stood = subst (λ (q : Queue). StandsSource i (words (Src i)) (words (Ack i)) q.held (source_in (source_of m i))) (sym queue_is)
+        (stands.shared.sources i there)
 
     -- the source's numbers are those that are told
     pub source_told : told_source program words i ≡ source_in (unmarked (source_of m i))
@@ -127,12 +133,13 @@ module _ (program : Program) (readings : Readings) (words : Memory) (m : Model) 
     sources_read =
         ext_get_or no_source a.sources (map unmarked m.sources) (read.shape.sources ∙ (sym sound.shape.sources ∙ sym (length-map m.sources unmarked)))
         (λ i lt.
-            let there : i < length program.sources = omega (arith, read.shape.sources) in
-            source_is (source_of a i) (unmarked (source_of m i)) (read.sources i there ∙ source_told i there) ∙ sym (unmarked_at i there))
+        let there : i < length program.sources = omega (arith, read.shape.sources) in
+        source_is (source_of a i) (unmarked (source_of m i)) (read.sources i there ∙ source_told i there) ∙ sym (unmarked_at i there))
 
     pub reads : a ≡ without_scan m
     reads =
-        let threads = threads_are program words a m accepted told_read told_model (λ t there. read.queues t there ∙ queue_told program readings words m accepted sound stands t there) in
+        let threads = threads_are program words a m accepted told_read told_model
+        (λ t there. read.queues t there ∙ queue_told program readings words m accepted sound stands t there) in
         let pipes = pipes_are program words a m accepted told_read told_model in
         let timers = timers_are program words a m accepted told_read told_model in
         let outputs = outputs_are program words a m accepted told_read told_model sound.stamps.own in

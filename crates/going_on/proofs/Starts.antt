@@ -1,5 +1,5 @@
 -- The second part begins with the state that the whole has there, and its readings are those that are left.
-use Rattle.going_on.proofs.Common.{◌≡◌, inl, inr, ℕ, ◌+◌, ◌-◌, ◌<◌, ◌≤◌, List, [], ◌∷◌, ◌++◌, length, map, get_or, Option, Some, None, refl, sym, ap, ◌∙◌, subst, arith, slice_index, All, append-nil, cases_lt, get_or_past, Entry, Program, Model, IsSound, Readings, SourceModel, source_of, no_source, readings_of, effect, after, IsLegal, first_of, JobParts, IsJob, Start, Setup, Board, journal, journal_of, ChargeRecord, state, memory, shape, BoardStands, Division, IsDivided, IsSplit, first_run, behind_settled, unmarked, without_scan}
+use Rattle.going_on.proofs.Common.{◌≡◌, inl, inr, ℕ, ◌+◌, ◌<◌, ◌≤◌, List, [], ◌∷◌, ◌++◌, length, Option, Some, None, refl, sym, ap, ◌∙◌, subst, arith, slice_index, All, append-nil, cases_lt, get_or_past, Entry, Program, Model, IsSound, Readings, SourceModel, source_of, readings_of, effect, after, IsLegal, Start, Board, journal, journal_of, state, memory, shape, BoardStands, Division, IsDivided, IsSplit, first_run, without_scan}
 use Rattle.std.specs.Option.{ForSome}
 use Rattle.fram_words.specs.Places.{Memory}
 use Rattle.fram_words.specs.Shape.{memory_of}
@@ -14,35 +14,47 @@ use Rattle.going_on.proofs.PartJobs.{settled_length, settled_at}
 use Rattle.going_on.proofs.Wholes.{s, count, at_split, behind, unbegun, whole_setup, holds, lasts, more_entries, split_is, first_begun}
 
 -- entries one after the other
-pub after_both : (program : Program) (readings : Readings) (m : Model) (xs ys : List Entry) → after program readings m (xs ++ ys) ≡ after program readings (after program readings m xs) ys
+pub after_both : (program : Program) (readings : Readings) (m : Model) (xs ys : List Entry) →
+    after program readings m (xs ++ ys) ≡ after program readings (after program readings m xs) ys
 after_both program readings m [] ys = refl
 after_both program readings m (e ∷ xs) ys = after_both program readings (effect program readings m e) xs ys
+
+pub legal_both : (program : Program) (readings : Readings) (m : Model) (xs ys : List Entry) → IsLegal program readings m xs →
+    IsLegal program readings (after program readings m xs) ys →
+    IsLegal program readings m (xs ++ ys)
+legal_both program readings m [] ys first more = more
+legal_both program readings m (e ∷ xs) ys first more = (first.0, legal_both program readings (effect program readings m e) xs ys first.1 more)
 
 module _ (d : Division) (h : IsSplit d) where
   pub stands_at : (n : ℕ) → BoardStands (s d) (behind d n)
   stands_at n = board_stands (s d) (count d) (behind d n) (whole_setup d h) (holds d h n) (lasts d h n)
 
   pub sound_at : (n : ℕ) → IsSound d.job.program d.job.readings (state (s d) (behind d n))
-  sound_at n = sound_after d.job.program d.job.readings (s d).first (journal (behind d n)) (whole_setup d h).accepted (whole_setup d h).short (whole_setup d h).start.sound (stands_at n).legal
+  sound_at n = sound_after d.job.program d.job.readings (s d).first (journal (behind d n)) (whole_setup d h).accepted (whole_setup d h).short
+      (whole_setup d h).start.sound (stands_at n).legal
 
   -- the first state's outputs are of threads of the program
-  first_known : (start : Option Start) → ForSome start (IsStart d.job.program d.job.readings) → All (IsOutputOf d.job.program) (first_model d.job.program start).outputs
+  first_known : (start : Option Start) → ForSome start (IsStart d.job.program d.job.readings) →
+      All (IsOutputOf d.job.program) (first_model d.job.program start).outputs
   first_known None is = λ k o lt. absurd (omega arith)
   first_known (Some start) is = (is start refl).read.outputs
 
   known_at : (n : ℕ) → All (IsOutputOf d.job.program) (state (s d) (behind d n)).outputs
   known_at n =
-      outputs_known d.job.program d.job.readings (s d).first (journal (behind d n)) (whole_setup d h).start.sound (first_known d.job.start h.job.start) (stands_at n).legal (sound_at n)
+      outputs_known d.job.program d.job.readings (s d).first (journal (behind d n)) (whole_setup d h).start.sound (first_known d.job.start h.job.start)
+      (stands_at n).legal (sound_at n)
 
   -- the words where the first part ends tell the whole's state there
   pub read_there : IsReadOff d.job.program (memory (s d) (at_split d)) (without_scan (state (s d) (at_split d)))
   read_there =
-      is_read d.job.program d.job.readings (memory (s d) (at_split d)) (state (s d) (at_split d)) (whole_setup d h).accepted (sound_at 0) (lasts d h 0) (stands_at 0).stands (known_at 0)
+      is_read d.job.program d.job.readings (memory (s d) (at_split d)) (state (s d) (at_split d)) (whole_setup d h).accepted (sound_at 0) (lasts d h 0)
+      (stands_at 0).stands (known_at 0)
 
   -- and no other
   pub reads_there : (m : Model) → IsReadOff d.job.program (memory (s d) (at_split d)) m → m ≡ without_scan (state (s d) (at_split d))
   reads_there m read =
-      reads d.job.program d.job.readings (memory (s d) (at_split d)) (state (s d) (at_split d)) (whole_setup d h).accepted (sound_at 0) (lasts d h 0) (stands_at 0).stands (known_at 0) m read
+      reads d.job.program d.job.readings (memory (s d) (at_split d)) (state (s d) (at_split d)) (whole_setup d h).accepted (sound_at 0) (lasts d h 0)
+      (stands_at 0).stands (known_at 0) m read
 
   -- words and journal are the first part's
   pub split_words : (at_split d).words ≡ (first_run d).words
@@ -101,5 +113,7 @@ module _ (d : Division) (h : IsDivided d) where
       elim (cases_lt i (length d.job.program.sources)) [
         | inl lt ↦ sym (ap (λ (l : List ℕ). slice_index l k) (h.readings i lt) ∙ settled_at (floor i) (readings_of d.job.readings i) k le)
         | inr past ↦
-            ap (λ (l : List ℕ). slice_index l k) (get_or_past d.job.readings i [] (let e = h.split.job.sources in omega arith) ∙ sym (get_or_past d.readings i [] (let e = h.sources in omega arith)))
+            ap (λ (l : List ℕ). slice_index l k)
+            (get_or_past d.job.readings i [] (let e = h.split.job.sources in omega arith)
+            ∙ sym (get_or_past d.readings i [] (let e = h.sources in omega arith)))
       ]

@@ -1,30 +1,24 @@
 -- Two states that the same words tell have the same parts.
-use Rattle.going_on.proofs.Common.{◌≡◌, ◌⊎◌, inl, inr, ℕ, suc, ◌+◌, ◌-◌, ◌%◌, ◌^◌, ◌<◌, ◌≤◌, ◌==◌, true, List, [], ◌∷◌, length, get_or, Option, Some, None, refl, sym, ap, ◌∙◌, subst, arith, slice_index, All, cases_lt, ext_get_or, get_or-map, eqb-true, Program, Model, thread_of}
+use Rattle.going_on.proofs.Common.{◌≡◌, inl, inr, ℕ, ◌+◌, ◌-◌, ◌%◌, ◌^◌, ◌<◌, ◌≤◌, ◌==◌, true, List, [], ◌∷◌, length, get_or, Option, Some, None, refl, sym, ap, ◌∙◌, arith, slice_index, All, cases_lt, ext_get_or, get_or-map, eqb-true, Program, Model, thread_of}
 use Rattle.std.proofs.lemmas.List.Elements.{All-filter, filter_passes}
-use Rattle.std.specs.Option.{ForSome, ForNone}
 use Rattle.ink_base.specs.declared.ids.TaskId.{TaskId}
 use Rattle.ink_base.specs.declared.event.Event.{Event}
-use Rattle.ink_base.specs.declared.event.Origin.{Origin}
 use Rattle.ink_base.specs.declared.output.Output.{Output}
 use Rattle.fram_words.specs.Header as header
-use Rattle.fram_words.specs.Held.{next_word, due_word, origin_word, origin_of, output_word}
+use Rattle.fram_words.specs.Held.{next_word, due_word, origin_of, output_word}
 use Rattle.fram_words.specs.Places.{Memory, Log, Ring}
 use Rattle.fram_words.proofs.ReadBack.{origin_of-origin_word}
 use Rattle.thread_state.specs.Pages.{committed}
-use Rattle.push_core.specs.Queue.{Queue}
 use Rattle.prog_check.specs.Accepted.{IsAccepted}
-use Rattle.prog_check.specs.Lookup.{thread_def, pipe_def, timer_def}
-use Rattle.never_cut.specs.declared.thread_model.ThreadModel.{ThreadModel}
-use Rattle.never_cut.specs.declared.pipe_model.PipeModel.{PipeModel}
-use Rattle.never_cut.specs.declared.timer_model.TimerModel.{TimerModel}
+use Rattle.prog_check.specs.Lookup.{pipe_def, timer_def}
 use Rattle.never_cut.specs.State.{pipe_of, timer_of, queue_of, no_thread, no_pipe, no_timer}
 use Rattle.never_cut.specs.Commit.{outputs_of}
 use Rattle.never_cut.specs.Outputs.{outputs_in}
-use Rattle.never_cut.specs.Stands.{StandsPrivate, saved, thread_words}
+use Rattle.never_cut.specs.Stands.{StandsPrivate, saved}
 use Rattle.never_cut.specs.Sound.{HasShape}
 use Rattle.never_cut.specs.ReadOff.{HasEventOf, IsOutputOf}
 use Rattle.never_cut.specs.Ranges.{IsOwnOrigin}
-use Rattle.never_cut.proofs.Blocks.{running_word, first_word, event_words, served_word, trapped_word, expired_word, outputs_word, taken_count, written_count, timer_count, period_count, state_at, stamp_word}
+use Rattle.never_cut.proofs.Blocks.{running_word, first_word, event_words, served_word, trapped_word, expired_word, outputs_word, taken_count, written_count, timer_count, period_count, state_at}
 use Rattle.never_cut.proofs.ReadStates.{own_bits}
 use Rattle.going_on.proofs.Outputs.{Rise, AreOwn, same_outputs}
 
@@ -55,7 +49,8 @@ same_output a b is small low own =
     λ k. record { stamp = stamp k; thread = record { 0 = own k }; value = value k }
 
 -- no output is of a thread past the last
-nothing_of : (program : Program) (t : ℕ) → length program.threads ≤ t → (l : List Output) → All (IsOutputOf program) l → All (λ (o : Output). (o.thread.0 == t) ≡ true) l → l ≡ []
+nothing_of : (program : Program) (t : ℕ) → length program.threads ≤ t → (l : List Output) → All (IsOutputOf program) l →
+    All (λ (o : Output). (o.thread.0 == t) ≡ true) l → l ≡ []
 nothing_of program t past [] known of = refl
 nothing_of program t past (o ∷ l) known of = absurd (let low = (known 0 o (omega arith)).0 in let same = eqb-true _ _ (of 0 o (omega arith)) in omega arith)
 
@@ -76,7 +71,8 @@ module _ (program : Program) (words : Memory) (a b : Model) (accepted : IsAccept
         ext_get_or 0 (thread_of a t).state (thread_of b t).state (one.shape.states t known ∙ sym (two.shape.states t known))
         (λ k lt. sym (number_is a one.private k) ∙ number_is b two.private k)
 
-    event_same : (e f : Event) → (thread_of a t).event ≡ Some e → (thread_of b t).event ≡ Some f → IsOwnOrigin program t e.origin → IsOwnOrigin program t f.origin → e ≡ f
+    event_same : (e f : Event) → (thread_of a t).event ≡ Some e → (thread_of b t).event ≡ Some f → IsOwnOrigin program t e.origin →
+        IsOwnOrigin program t f.origin → e ≡ f
     event_same e f has holds own owns =
         let left = event_words program words a t e known one.private has in
         let right = event_words program words b t f known two.private holds in
@@ -117,7 +113,8 @@ module _ (program : Program) (words : Memory) (a b : Model) (accepted : IsAccept
 
     -- the outputs of the thread
     output_is : (m : Model) → IsTold program words m → (n : ℕ) (d : Output) → n < length (outputs_of m t) →
-        (words (Log t n) ≡ output_word (get_or (outputs_of m t) n d)) × ((get_or (outputs_of m t) n d).value < 2 ^ 32) × ((get_or (outputs_of m t) n d).thread.0 ≡ t)
+        (words (Log t n) ≡ output_word (get_or (outputs_of m t) n d)) × ((get_or (outputs_of m t) n d).value < 2 ^ 32) ×
+        ((get_or (outputs_of m t) n d).thread.0 ≡ t)
     output_is m told n d lt = (
       (told.private.threads t known).log n lt ∙ get_or-map output_word (outputs_of m t) n d 0 lt,
       (All-filter (λ (o : Output). o.thread.0 == t) (IsOutputOf program) m.outputs told.outputs n d lt).1,
@@ -127,16 +124,18 @@ module _ (program : Program) (words : Memory) (a b : Model) (accepted : IsAccept
     outputs_same : outputs_of a t ≡ outputs_of b t
     outputs_same =
         let d : Output = record { stamp = 0; thread = record { 0 = 0 }; value = 0 } in
-        let long : length (outputs_of a t) ≡ length (outputs_of b t) = sym (outputs_word program words a t known one.private) ∙ outputs_word program words b t known two.private in
+        let long : length (outputs_of a t) ≡ length (outputs_of b t) = sym (outputs_word program words a t known one.private)
+        ∙ outputs_word program words b t known two.private in
         ext_get_or d (outputs_of a t) (outputs_of b t) long
         (λ n lt.
-            let x = output_is a one n d lt in
-            let y = output_is b two n d (omega (arith, long)) in
-            same_output (get_or (outputs_of a t) n d) (get_or (outputs_of b t) n d) (sym x.0 ∙ y.0) x.1 y.1 (x.2 ∙ sym y.2))
+        let x = output_is a one n d lt in
+        let y = output_is b two n d (omega (arith, long)) in
+        same_output (get_or (outputs_of a t) n d) (get_or (outputs_of b t) n d) (sym x.0 ∙ y.0) x.1 y.1 (x.2 ∙ sym y.2))
 
   pub threads_are : ((t : ℕ) → t < length program.threads → queue_of (thread_of a t) ≡ queue_of (thread_of b t)) → a.threads ≡ b.threads
   threads_are queues =
-      ext_get_or no_thread a.threads b.threads (one.shape.threads ∙ sym two.shape.threads) (λ t lt. let known : t < length program.threads = omega (arith, one.shape.threads) in thread_is t known (queues t known))
+      ext_get_or no_thread a.threads b.threads (one.shape.threads ∙ sym two.shape.threads)
+      (λ t lt. let known : t < length program.threads = omega (arith, one.shape.threads) in thread_is t known (queues t known))
 
   module _ (q : ℕ) (known : q < length program.pipes) where
     pipe_taken : (pipe_of a q).taken ≡ (pipe_of b q).taken
@@ -146,14 +145,15 @@ module _ (program : Program) (words : Memory) (a b : Model) (accepted : IsAccept
         ∙ taken_count program words b (pipe_def program q).reader.0 q accepted reader two.private known refl
 
     pipe_length : length (pipe_of a q).items ≡ length (pipe_of b q).items
-    pipe_length = omega (arith, written_count program words a q accepted one.private known, written_count program words b q accepted two.private known, pipe_taken)
+    pipe_length = omega
+        (arith, written_count program words a q accepted one.private known, written_count program words b q accepted two.private known, pipe_taken)
 
     pipe_items : (pipe_of a q).items ≡ (pipe_of b q).items
     pipe_items =
         ext_get_or 0 (pipe_of a q).items (pipe_of b q).items pipe_length
         (λ k lt.
-            sym (one.private.pipes q known k lt)
-            ∙ (ap (λ n. words (Ring q ((n + k) % (pipe_def program q).places))) pipe_taken ∙ two.private.pipes q known k (omega (arith, pipe_length))))
+        sym (one.private.pipes q known k lt)
+        ∙ (ap (λ n. words (Ring q ((n + k) % (pipe_def program q).places))) pipe_taken ∙ two.private.pipes q known k (omega (arith, pipe_length))))
 
     pipe_is : pipe_of a q ≡ pipe_of b q
     pipe_is = λ k. record { items = pipe_items k; taken = pipe_taken k }
@@ -162,8 +162,11 @@ module _ (program : Program) (words : Memory) (a b : Model) (accepted : IsAccept
   timer_is j known =
       let t : ℕ = (timer_def program j).thread.0 in
       let owner = accepted.timers j known in
-      let due = same_due _ _ (sym (timer_count program words a t j accepted owner.thread one.private known refl) ∙ timer_count program words b t j accepted owner.thread two.private known refl) in
-      let period = sym (period_count program words a t j accepted owner.thread one.private known refl) ∙ period_count program words b t j accepted owner.thread two.private known refl in
+      let due = same_due _ _
+      (sym (timer_count program words a t j accepted owner.thread one.private known refl)
+      ∙ timer_count program words b t j accepted owner.thread two.private known refl) in
+      let period = sym (period_count program words a t j accepted owner.thread one.private known refl)
+      ∙ period_count program words b t j accepted owner.thread two.private known refl in
       λ k. record { due = due k; period = period k }
 
   pub pipes_are : a.pipes ≡ b.pipes
@@ -181,7 +184,8 @@ module _ (program : Program) (words : Memory) (a b : Model) (accepted : IsAccept
       ]
     where
       none : (m : Model) → IsTold program words m → (t : ℕ) → length program.threads ≤ t → outputs_in t m.outputs ≡ []
-      none m told t past = nothing_of program t past (outputs_in t m.outputs) (All-filter (λ (o : Output). o.thread.0 == t) (IsOutputOf program) m.outputs told.outputs) (filter_passes (λ (o : Output). o.thread.0 == t) m.outputs)
+      none m told t past = nothing_of program t past (outputs_in t m.outputs)
+          (All-filter (λ (o : Output). o.thread.0 == t) (IsOutputOf program) m.outputs told.outputs) (filter_passes (λ (o : Output). o.thread.0 == t) m.outputs)
 
   pub outputs_are : AreOwn b.outputs → a.outputs ≡ b.outputs
   outputs_are own = same_outputs a.outputs b.outputs one.rise two.rise own outputs_told

@@ -1,5 +1,5 @@
 -- The run of the whole job, at the end of its first part and from there on.
-use Rattle.going_on.proofs.Common.{◌≡◌, ℕ, zero, suc, ◌+◌, ◌-◌, ◌<◌, ◌≤◌, List, [], ◌∷◌, ◌++◌, length, take, replicate, Option, Some, None, refl, sym, ap, ◌∙◌, subst, arith, take_all, append-nil, append_assoc, length-append, replicate-append-replicate, flat_map, Entry, Program, Model, Readings, readings_of, Legal, effect, IsLegal, after, noted, source_of, first_row, Charge, JobParts, IsJob, AreFirstWords, first_of, Setup, Board, Move, Cut, Turn, move, moved_by, first_board, journal, row_of, moves, moves_of, run, run_first, setup_of, AreMoves, IsActor, IsInRange, ticks, turns, ChargeRecord, not_begun, state, memory, BoardStands, HasSize, Holds, Division, first_part, first_run, second_part, second_after, whole_after, whole_run, IsSetup, AreCharges, length-replicate, IsSplit}
+use Rattle.going_on.proofs.Common.{◌≡◌, ℕ, zero, suc, ◌+◌, ◌≤◌, List, [], ◌∷◌, ◌++◌, length, take, replicate, Option, Some, None, refl, sym, ap, ◌∙◌, subst, arith, append-nil, append_assoc, length-append, replicate-append-replicate, Entry, noted, Charge, JobParts, IsJob, first_of, Setup, Board, Move, Cut, Turn, move, moved_by, first_board, journal, moves, moves_of, run_first, setup_of, AreMoves, turns, ChargeRecord, not_begun, state, HasSize, Holds, Division, first_run, whole_after, whole_run, IsSetup, AreCharges, length-replicate, IsSplit}
 use Rattle.std.proofs.lemmas.Grind.{flat_map-append}
 use Rattle.never_cut.specs.Within.{Lasts}
 use Rattle.never_cut.proofs.Lasting.{lasts_less}
@@ -8,7 +8,7 @@ use Rattle.kernel_core.proofs.Firsts.{first_holds}
 use Rattle.kernel_core.proofs.CoreRuns.{moved_append}
 use Rattle.kernel_core.proofs.Growth.{one_entry, all_begun, all_recorded}
 use Rattle.kernel_core.proofs.JobMoves.{job_moves, job_range, job_setup, job_first}
-use Rattle.going_on.proofs.Parts.{widened, other, AllAgree, part_moves}
+use Rattle.going_on.proofs.Parts.{widened, part_moves}
 use Rattle.going_on.proofs.PartJobs.{front_charges, back_charges}
 
 take_behind : {X : Type 0} (xs ys : List X) (n : ℕ) → take (length xs + n) (xs ++ ys) ≡ xs ++ take n ys
@@ -75,7 +75,8 @@ module _ (d : Division) (h : IsSplit d) where
       ∙ moved_append (s d) (first_board (s d) d.words (count d)) (moves d.front) (take n (moves d.back)))
 
   pub end_is : whole_run d ≡ moved_by (s d) (at_split d) (moves d.back)
-  end_is = ap (λ (ms : List Move). moved_by (s d) (first_board (s d) d.words (count d)) ms) moves_are ∙ moved_append (s d) (first_board (s d) d.words (count d)) (moves d.front) (moves d.back)
+  end_is = ap (λ (ms : List Move). moved_by (s d) (first_board (s d) d.words (count d)) ms) moves_are
+      ∙ moved_append (s d) (first_board (s d) d.words (count d)) (moves d.front) (moves d.back)
 
   pub whole_setup : IsSetup (s d)
   whole_setup = job_setup d.job h.job
@@ -85,11 +86,13 @@ module _ (d : Division) (h : IsSplit d) where
   held n =
       let few = ticks_taken n (moves d.job.charges) in
       let range = job_range d.job h.job in
-      moves_hold (s d) (count d) (first_board (s d) d.words (count d)) (take n (moves d.job.charges)) whole_setup (first_holds (s d) d.words (count d) whole_setup (job_first d.job d.words h.job h.words))
+      moves_hold (s d) (count d) (first_board (s d) d.words (count d)) (take n (moves d.job.charges)) whole_setup
+      (first_holds (s d) d.words (count d) whole_setup (job_first d.job d.words h.job h.words))
       (moves_taken (s d) (count d) 0 n (moves d.job.charges) (job_moves d.job h.job))
       (record {
         clock = let c = range.clock in omega (arith, c, few);
-        counts = lasts_less (turns (moves d.job.charges)) (turns (take n (moves d.job.charges))) (first_of d.job) (turns_taken n (moves d.job.charges)) range.counts;
+        counts = lasts_less (turns (moves d.job.charges)) (turns (take n (moves d.job.charges))) (first_of d.job)
+            (turns_taken n (moves d.job.charges)) range.counts;
       })
 
   pub holds : (n : ℕ) → Holds (s d) (count d) (behind d n)
@@ -102,14 +105,16 @@ module _ (d : Division) (h : IsSplit d) where
   all_moves = subst (λ (ms : List Move). AreMoves (s d) (count d) 0 ms) moves_are (job_moves d.job h.job)
 
   pub more_entries : (n : ℕ) → (more : List Entry) × (journal (behind d n) ≡ journal (at_split d) ++ more)
-  more_entries n = grown (s d) (count d) (at_split d) (moves d.back) n (λ k. (holds k).size) (moves_behind (s d) (count d) (first_board (s d) d.words (count d)) (moves d.front) (moves d.back) all_moves)
+  more_entries n = grown (s d) (count d) (at_split d) (moves d.back) n (λ k. (holds k).size)
+      (moves_behind (s d) (count d) (first_board (s d) d.words (count d)) (moves d.front) (moves d.back) all_moves)
 
   pub front_job : 1 ≤ length d.front → IsJob (part d d.front)
   front_job some = record {
     accepted = h.job.accepted;
     sources = h.job.sources;
     readings = h.job.readings;
-    charges = front_charges (length d.job.program.sources) d.front d.back (subst (λ (l : List Charge). AreCharges (length d.job.program.sources) l) h.charges h.job.charges) some;
+    charges = front_charges (length d.job.program.sources) d.front d.back
+        (subst (λ (l : List Charge). AreCharges (length d.job.program.sources) l) h.charges h.job.charges) some;
     start = h.job.start;
   }
 
@@ -118,7 +123,8 @@ module _ (d : Division) (h : IsSplit d) where
     accepted = h.job.accepted;
     sources = h.job.sources;
     readings = h.job.readings;
-    charges = back_charges (length d.job.program.sources) d.front d.back (subst (λ (l : List Charge). AreCharges (length d.job.program.sources) l) h.charges h.job.charges) some;
+    charges = back_charges (length d.job.program.sources) d.front d.back
+        (subst (λ (l : List Charge). AreCharges (length d.job.program.sources) l) h.charges h.job.charges) some;
     start = h.job.start;
   }
 
@@ -137,7 +143,8 @@ module _ (d : Division) (h : IsSplit d) where
   split_is =
       let none : ChargeRecord = not_begun (length d.job.program.sources) in
       let charges : replicate (count d) none ≡ [] ++ (unbegun d d.front ++ unbegun d d.back) =
-      ap (λ n. replicate n none) (ap (λ (l : List Charge). length l) h.charges ∙ length-append d.front d.back) ∙ sym (replicate-append-replicate (length d.front) (length d.back) none) in
+      ap (λ n. replicate n none) (ap (λ (l : List Charge). length l) h.charges ∙ length-append d.front d.back)
+      ∙ sym (replicate-append-replicate (length d.front) (length d.back) none) in
       ap (λ (l : List ChargeRecord). moved_by (s d) (record (first_board (s d) d.words (count d)) { charges = l }) (moves d.front)) charges
       ∙ part_moves [] (unbegun d d.back) (s d) d.job.readings (s d).first (first_board (s d) d.words (length d.front)) (moves d.front) (omega arith)
       (subst (λ n. AreMoves (s d) n 0 (moves d.front)) (sym (length-replicate (length d.front) none)) front_moves)

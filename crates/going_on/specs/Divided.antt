@@ -68,7 +68,8 @@ pub record IsDivided (d : Division) : Type 0 where
   pub left : d.start.words ≡ (first_run d).words
   pub read : IsReadOff d.job.program (words_in d.job.program d.start) d.start.model
   pub sources : length d.readings ≡ length d.job.program.sources
-  pub readings : (i : ℕ) → i < length d.job.program.sources → readings_of d.readings i ≡ behind_settled (source_of d.start.model i).next (readings_of d.job.readings i)
+  pub readings : (i : ℕ) → i < length d.job.program.sources →
+      readings_of d.readings i ≡ behind_settled (source_of d.start.model i).next (readings_of d.job.readings i)
 
 -- the readings of each source behind those that it has settled
 abbrev pub all_behind : List SourceModel → Readings → Readings

@@ -1,8 +1,10 @@
 -- What the two runs of a divided job are to the run of the whole.
 use Rattle.std.specs.Prelude.{◌≡◌, ℕ, ◌<◌, ◌≤◌, List, ◌++◌, length}
 use Rattle.ink_base.specs.declared.actor.Actor.{Actor}
-use Rattle.job_parts.specs.Job.{AreFirstWords, IsJob, JobParts, words_in}
+use Rattle.ink_base.specs.declared.entry.Entry.{Entry}
+use Rattle.job_parts.specs.Job.{AreFirstWords, IsJob, JobParts, first_of, words_in}
 use Rattle.job_parts.specs.declared.charge.Charge.{Charge}
+use Rattle.never_cut.specs.Journal.{IsLegal, after}
 use Rattle.never_cut.specs.Images.{AreListed}
 use Rattle.never_cut.specs.Worn.{IsWorn}
 use Rattle.kernel_core.specs.Board.{Board, journal}
@@ -44,6 +46,17 @@ GoesAsWhole = (d : Division) → IsDivided d → (n : ℕ) → IsAsWhole d n
 abbrev pub StartsFromWhole : Type 0
 StartsFromWhole = (d : Division) → IsDivided d → d.start.model ≡ without_scan (state (setup_of d.job) (whole_after d 0))
 
+-- these entries follow the first part's journal legally, and the state after them is the same as from the start, but for what a cut loses
+pub record FollowsFirst (d : Division) (entries : List Entry) : Type 0 where
+  pub legal : IsLegal d.job.program d.job.readings (first_of d.job) (journal (first_run d) ++ entries)
+  pub state_is :
+      without_scan (after d.job.program d.readings d.start.model entries)
+      ≡ without_scan (after d.job.program d.job.readings (first_of d.job) (journal (first_run d) ++ entries))
+
+-- so it is of whatever follows the start legally
+abbrev pub ContinuesWhole : Type 0
+ContinuesWhole = (d : Division) → IsDivided d → (entries : List Entry) → IsLegal d.job.program d.readings d.start.model entries → FollowsFirst d entries
+
 -- after any number of cuts and turns of the second part, where it is a job, its state is the whole's but for that
 abbrev pub StandsAsWhole : Type 0
 StandsAsWhole =
@@ -54,4 +67,5 @@ StandsAsWhole =
 abbrev pub AreJobs : Type 0
 AreJobs =
     (d : Division) → IsDivided d → (1 ≤ length d.front → IsJob (first_part d)) ×
-    ((listed : List ℕ) → 1 ≤ length d.back → AreListed d.job.program listed d.start.model d.readings → ¬ IsWorn d.job.program listed (words_in d.job.program d.start) → IsJob (second_part d))
+    ((listed : List ℕ) → 1 ≤ length d.back → AreListed d.job.program listed d.start.model d.readings →
+    ¬ IsWorn d.job.program listed (words_in d.job.program d.start) → IsJob (second_part d))

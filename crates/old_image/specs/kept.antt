@@ -1,0 +1,4 @@
+pub mod Origins
+pub mod Parts
+pub mod Stages
+pub mod Unworn
