@@ -7,4 +7,6 @@ pub mod Begun
 pub mod Judged
 pub mod Rests
 pub mod PlainTexts
+pub mod Holding
 pub mod Once
+pub mod Forms

@@ -10,12 +10,13 @@ use Rattle.ink_image.specs.declared.image.ImageAnswer.TheVariants.{BadWord, Wron
 use Rattle.ink_image.specs.Form.{form_of, IsImageIn, FailsFirst}
 use Rattle.ink_image.specs.Image.{Judges, JudgesRead, JudgesSection}
 use Rattle.ink_image.specs.Reading.{read}
+use Rattle.ink_image.proofs.Holding.{today_holds, earlier_holds}
 use Rattle.ink_image.specs.Whole.{image_tails, first_header, fault_at, IsJobAt, IsJudged, IsMadeOf, IsJobBehind, IsJobOf}
 
--- an image fails nowhere
+-- at no place of an image a check fails
 image_holds : (form : Form) (program : Program) (words : Memory) (p : Place) → IsImageIn form program words → FailsFirst form program words p → ⊥
-image_holds Today program words p image fails = ?
-image_holds Earlier program words p image fails = ?
+image_holds Today program words p image fails = today_holds program words p image fails
+image_holds Earlier program words p image fails = earlier_holds program words p image fails
 
 words_once : (form : Form) (program : Program) (listed words : List ℕ) (start : Start) (e : ImageAnswer) → Judges form program listed words (Ok start) → Judges form program listed words (Err e) → ⊥
 words_once form program listed words start WrongShape gives refuses = refuses gives.count

@@ -52,3 +52,10 @@ IsWornIn Earlier program listed words = IsOldWorn program listed words
 abbrev pub AreToday : Form → Program → (said words : List ℕ) → Type 0
 AreToday Today program said words = words ≡ said
 AreToday Earlier program said words = IsRenewed program (memory_in program said) (memory_in program words)
+
+-- They are today's words of an image: an image too, which isn't worn where the other one isn't.
+pub record IsToday (form : Form) (program : Program) (said words : List ℕ) : Type 0 where
+  pub count : HasWords program words
+  pub today : AreToday form program said words
+  pub image : IsImage program (memory_in program words)
+  pub fresh : (listed : List ℕ) → ¬ IsWornIn form program listed (memory_in program said) → ¬ IsWorn program listed (memory_in program words)

@@ -24,7 +24,3 @@ EveryPlainText = (text : List ℕ) (answer : Result JobParts JobFault) → HasNo
 -- A text has a job or a fault, and never both.
 abbrev pub EveryTextIsOne : Type 0
 EveryTextIsOne = (text : List ℕ) (job : JobParts) (fault : JobFault) → IsJobOf text (Ok job) → ¬ IsJobOf text (Err fault)
-
--- It has one first fault.
-abbrev pub EveryFaultIsFirst : Type 0
-EveryFaultIsFirst = (text : List ℕ) (one other : JobFault) → IsJobOf text (Err one) → IsJobOf text (Err other) → one ≡ other

@@ -148,7 +148,7 @@ fn start_of(
     ensures gives { IfOk result (GivesStart form plan.now.accepted listed.now words.items) }
     ensures ready { IfOk result (IsReady plan.now.accepted listed.now) }
 {
-    let words = today(form, plan, words);
+    let words = today(alloc, form, plan, words)?;
     let model = read_off(alloc, plan, words.as_slice())?;
     Ok(Start {
         words: Items::from_vec(words),

@@ -4,6 +4,7 @@
 mod form;
 mod image;
 mod judging;
+mod laws;
 mod reading;
 mod settled;
 mod whole;
@@ -11,6 +12,7 @@ mod writing;
 
 pub use form::Form;
 pub use image::{ImageAnswer, read_image};
+pub use laws::texts_tell;
 pub use reading::{WordsAnswer, read_words};
 pub use whole::whole_job;
 pub use writing::write_image;

@@ -45,12 +45,7 @@ fn image_tails() -> Tails
 }
 
 // The job before an image, which begins at the header of these tokens, and with the image.
-fn job_made_of(
-    alloc: Global,
-    text: &[u8],
-    job: Job,
-    tokens: &[Token],
-) -> Result<Job, JobAnswer>
+fn job_made_of(alloc: Global, text: &[u8], job: Job, tokens: &[Token]) -> Result<Job, JobAnswer>
     ensures { Answers (IsMadeOf job (token_lines text.now tokens.now)) result }
 {
     if tokens.is_empty() {
@@ -75,7 +70,14 @@ fn judged_job(
         return Err(fault(line, Cause::BadSection));
     }
     let listed = listed_of(alloc, &job)?;
-    match section_start(alloc, form, text, section, job.accepted(), listed.as_slice()) {
+    match section_start(
+        alloc,
+        form,
+        text,
+        section,
+        job.accepted(),
+        listed.as_slice(),
+    ) {
         Ok(start) => Ok(job_from(alloc, job, start)?),
         Err(e) => Err(fault_at(header, section, e)),
     }
