@@ -1,5 +1,5 @@
 -- Words that fail to be an image: the place that a reader names. It is the first one, in the order of the checks and of their places, at which a check fails.
-use Rattle.std.specs.Prelude.{ℕ, ◌+◌, ◌*◌, ◌%◌, ◌<◌, Option, Some, None, length}
+use Rattle.std.specs.Prelude.{ℕ, ◌+◌, ◌*◌, ◌%◌, ◌<◌, ◌≤◌, Option, Some, None, length}
 use Rattle.task_isa.specs.declared.program.Program.{Program}
 use Rattle.fram_words.specs.Places.{Place, Memory, Code, Commit, Log, Ring, Tail, Slot, Ack, Src}
 use Rattle.fram_words.specs.Header as header
@@ -47,6 +47,10 @@ AreSlots program words t = HoldsBelow (IsSlotWord program words t) (thread_def p
 -- the counts of a source's held events are right
 abbrev pub AreCounts : Program → Memory → (i : ℕ) → Type 0
 AreCounts program words i = HoldsBelow (IsCountWord program words i) (length (held_for program words i))
+
+-- no thread has more outputs than places for them
+abbrev pub OutputsFit : Program → Memory → Type 0
+OutputsFit program words = HoldsBelow (λ t. committed words t header.outputs ≤ (thread_def program t).log) (length program.threads)
 
 -- check 1 holds: every code word
 abbrev pub CodeHolds : Program → Memory → Type 0

@@ -1,3 +1,4 @@
 pub mod Board
 pub mod Failing
+pub mod Laws
 pub mod kept

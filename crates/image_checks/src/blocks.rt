@@ -49,7 +49,7 @@ fn failing_word(plan: &Plan, words: &[u64], thread: ThreadId) -> Option<u32>
 }
 
 /// How many pages a thread's block has.
-pub(crate) fn page_count(plan: &Plan, thread: ThreadId) -> u32
+pub fn page_count(plan: &Plan, thread: ThreadId) -> u32
     requires { thread.0 < length plan.now.accepted.threads }
     ensures number { result ≡ pages_of (thread_def plan.now.accepted thread.0) }
     ensures few { result < 64 }
@@ -67,7 +67,7 @@ fn state_len(plan: &Plan, thread: ThreadId) -> u32
 }
 
 /// Where a word of a thread's block stands: in the committed copy of its page.
-pub(crate) fn block_place(plan: &Plan, words: &[u64], thread: ThreadId, word: u32) -> Place
+pub fn block_place(plan: &Plan, words: &[u64], thread: ThreadId, word: u32) -> Place
     requires count { length words.now ≡ words_of (shape_of plan.now.accepted) }
     requires known { thread.0 < length plan.now.accepted.threads }
     requires within { word < 8 * pages_of (thread_def plan.now.accepted thread.0) }
@@ -78,8 +78,8 @@ pub(crate) fn block_place(plan: &Plan, words: &[u64], thread: ThreadId, word: u3
     place_in(thread, word_at(plan, words, Place::Commit { thread }), word)
 }
 
-// Whether a word of a thread's block is right.
-fn is_block_word(plan: &Plan, words: &[u64], thread: ThreadId, word: u32) -> bool
+/// Whether a word of a thread's block is right.
+pub fn is_block_word(plan: &Plan, words: &[u64], thread: ThreadId, word: u32) -> bool
     requires count { length words.now ≡ words_of (shape_of plan.now.accepted) }
     requires known { thread.0 < length plan.now.accepted.threads }
     requires within { word < 8 * pages_of (thread_def plan.now.accepted thread.0) }

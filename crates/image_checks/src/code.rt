@@ -17,7 +17,7 @@ use ink_layout::Plan;
 use task_isa::{Instr, encode};
 
 /// The first code word that isn't the program's.
-pub(crate) fn failing_code(plan: &Plan, words: &[u64]) -> Option<Place>
+pub fn failing_code(plan: &Plan, words: &[u64]) -> Option<Place>
     requires { length words.now ≡ words_of (shape_of plan.now.accepted) }
     ensures none { IfNone result (CodeHolds plan.now.accepted (board plan.now.accepted words.now)) }
     ensures first { IfSome result (λ place. IsFirstCodeFault plan.now.accepted (board plan.now.accepted words.now) (place_of place)) }
@@ -57,7 +57,7 @@ fn code_of(plan: &Plan, task: TaskId) -> &[Instr]
 }
 
 /// The first commit word with a bit at or above the number of its thread's pages.
-pub(crate) fn failing_commit_word(plan: &Plan, words: &[u64]) -> Option<Place>
+pub fn failing_commit_word(plan: &Plan, words: &[u64]) -> Option<Place>
     requires { length words.now ≡ words_of (shape_of plan.now.accepted) }
     ensures none { IfNone result (CommitWordsHold plan.now.accepted (board plan.now.accepted words.now)) }
     ensures first { IfSome result (λ place. IsFirstCommitFault plan.now.accepted (board plan.now.accepted words.now) (place_of place)) }

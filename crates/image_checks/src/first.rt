@@ -1,6 +1,6 @@
 //! The first place at which the words of a board fail to be an image.
 
-ghost use Rattle.std.specs.Prelude.{◌≡◌, length};
+ghost use Rattle.std.specs.Prelude.{IfNone, IfSome, ◌≡◌, length};
 ghost use Rattle.std.specs.Option.{ForSome, ForNone};
 ghost use Rattle.fram_words.specs.Steps.{place_of};
 ghost use Rattle.ink_layout.specs.Shape.{IsOnBoard, shape_of, words_of};
@@ -24,6 +24,17 @@ pub fn first_failing(plan: &Plan, words: &[u64]) -> Option<Place>
     ensures none { ForNone result (IsImage plan.now.accepted (board plan.now.accepted words.now)) }
     ensures first { ForSome result (λ place. IsFirstFailing plan.now.accepted (board plan.now.accepted words.now) (place_of place)) }
     ensures there { ForSome result (λ place. IsOnBoard plan.now.accepted (place_of place)) }
+{
+    // The program is accepted, so the place is one of its board.
+    let _program = plan.program();
+    failing_check(plan, words)
+}
+
+// The place of the first of the seven checks that fails.
+fn failing_check(plan: &Plan, words: &[u64]) -> Option<Place>
+    requires { length words.now ≡ words_of (shape_of plan.now.accepted) }
+    ensures none { IfNone result (IsImage plan.now.accepted (board plan.now.accepted words.now)) }
+    ensures first { IfSome result (λ place. IsFirstFailing plan.now.accepted (board plan.now.accepted words.now) (place_of place)) }
 {
     if let Some(place) = failing_code(plan, words) {
         return Some(place);

@@ -6,16 +6,16 @@ mod chains;
 mod code;
 mod first;
 mod headers;
+mod laws;
 mod logs;
 mod owners;
 mod pipes;
 mod queues;
 mod sources;
 
+pub use blocks::{block_place, is_block_word, page_count};
+pub use code::{failing_code, failing_commit_word};
 pub use first::first_failing;
-
-#[cfg(test)]
-mod tests {
-    #[test]
-    fn nothing() {}
-}
+pub use laws::images_hold;
+pub use logs::failing_output_word;
+pub use pipes::failing_pipe;

@@ -8,8 +8,8 @@ ghost use Rattle.prog_check.specs.Lookup.{thread_def};
 ghost use Rattle.ink_layout.specs.Shape.{shape_of, words_of};
 ghost use Rattle.never_cut.specs.Image.{IsLogWord, stamp_at};
 ghost use Rattle.image_checks.specs.Board.{board};
-ghost use Rattle.image_checks.specs.Failing.{BlocksHold, FindsFault, HoldsBelow, IsFirstLogFault, IsLog, LogsHold};
-ghost use Rattle.image_checks.specs.kept.Logs.{AreRising, IsApart, IsApartFromFirst, IsEnd, IsInOrder, IsPast, OutputsFit};
+ghost use Rattle.image_checks.specs.Failing.{BlocksHold, FindsFault, HoldsBelow, IsFirstLogFault, IsLog, LogsHold, OutputsFit};
+ghost use Rattle.image_checks.specs.kept.Logs.{AreRising, IsApart, IsApartFromFirst, IsEnd, IsInOrder, IsPast};
 
 use fram_words::{Header, Place, read_output};
 use image_told::{header_word, word_at};
@@ -20,6 +20,16 @@ use ink_layout::Plan;
 pub(crate) fn failing_log_word(plan: &Plan, words: &[u64]) -> Option<Place>
     requires count { length words.now ≡ words_of (shape_of plan.now.accepted) }
     requires blocks { BlocksHold plan.now.accepted (board plan.now.accepted words.now) }
+    ensures none { IfNone result (LogsHold plan.now.accepted (board plan.now.accepted words.now)) }
+    ensures first { IfSome result (λ place. IsFirstLogFault plan.now.accepted (board plan.now.accepted words.now) (place_of place)) }
+{
+    failing_output_word(plan, words)
+}
+
+/// The first output word that isn't right, where no thread has more outputs than places for them.
+pub fn failing_output_word(plan: &Plan, words: &[u64]) -> Option<Place>
+    requires count { length words.now ≡ words_of (shape_of plan.now.accepted) }
+    requires fit { OutputsFit plan.now.accepted (board plan.now.accepted words.now) }
     ensures none { IfNone result (LogsHold plan.now.accepted (board plan.now.accepted words.now)) }
     ensures first { IfSome result (λ place. IsFirstLogFault plan.now.accepted (board plan.now.accepted words.now) (place_of place)) }
 {

@@ -18,7 +18,7 @@ use ink_base::PipeId;
 use ink_layout::Plan;
 
 /// The first place at which a pipe fails.
-pub(crate) fn failing_pipe(plan: &Plan, words: &[u64]) -> Option<Place>
+pub fn failing_pipe(plan: &Plan, words: &[u64]) -> Option<Place>
     requires { length words.now ≡ words_of (shape_of plan.now.accepted) }
     ensures none { IfNone result (PipesHold plan.now.accepted (board plan.now.accepted words.now)) }
     ensures first { IfSome result (λ place. IsFirstPipeFault plan.now.accepted (board plan.now.accepted words.now) (place_of place)) }

@@ -1,5 +1,5 @@
 -- When the words of a block are those of a thread.
-use Rattle.image_state.proofs.Common.{◌≡◌, inl, inr, ℕ, zero, suc, ◌+◌, ◌-◌, ◌*◌, ◌/◌, ◌%◌, ◌<◌, ◌≤◌, length, refl, sym, ◌∙◌, subst, arith, slice_index, cases_lt, next_word, Saved}
+use Rattle.image_state.proofs.Common.{◌≡◌, inl, inr, ℕ, zero, suc, ◌-◌, ◌/◌, ◌<◌, ◌≤◌, length, refl, sym, ◌∙◌, subst, arith, slice_index, cases_lt, next_word, Saved}
 use Rattle.never_cut.specs.Stands.{thread_words}
 use Rattle.ink_base.specs.declared.limits.TheConstants as limits
 use Rattle.fram_words.specs.Header as header

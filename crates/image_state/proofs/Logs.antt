@@ -1,5 +1,5 @@
 -- The outputs that the logs tell.
-use Rattle.image_state.proofs.Common.{◌≡◌, ◌≢◌, inl, inr, ℕ, zero, suc, ◌+◌, ◌%◌, ◌^◌, ◌<◌, ◌≤◌, ◌==◌, ◌++◌, Bool, true, false, cond, List, [], ◌∷◌, length, get_or, refl, sym, ap, ◌∙◌, subst, arith, rules, filter, eq-eqb, ne_eqb, cases_eq, cases_lt, All, All-append, All-nil, filter-append, append-nil, get_or-map-range_with_len, length-map-range_with_len, Output, Program, Memory, committed, IsImage, IsNonDecreasingBy, IsOutputOf, outputs_in, told_output, told_outputs, outputs_until}
+use Rattle.image_state.proofs.Common.{◌≡◌, ◌≢◌, inl, inr, ℕ, zero, suc, ◌+◌, ◌<◌, ◌≤◌, ◌==◌, ◌++◌, Bool, true, false, List, [], ◌∷◌, length, get_or, refl, sym, ap, ◌∙◌, subst, arith, filter, eq-eqb, ne_eqb, cases_eq, All, All-append, All-nil, filter-append, append-nil, get_or-map-range_with_len, length-map-range_with_len, Output, Program, Memory, committed, IsImage, IsNonDecreasingBy, IsOutputOf, outputs_in, told_output, told_outputs, outputs_until}
 use Rattle.std.proofs.lemmas.List.Sorted.{IsNonDecreasingBy-from_all_adjacent}
 use Rattle.fram_words.specs.Header as header
 
@@ -42,14 +42,16 @@ module _ (words : Memory) where
   in_logs (suc u) t lt =
       filter-append (λ (o : Output). o.thread.0 == t) (outputs_until words u) (told_outputs words u)
       ∙ elim (cases_eq u t) [
-        | inl is ↦ ap (λ l. l ++ outputs_in t (told_outputs words u)) (not_yet u t (omega (arith, is))) ∙ subst (λ k. outputs_in t (told_outputs words k) ≡ told_outputs words t) (sym is) (own_outputs t)
+        | inl is ↦ ap (λ l. l ++ outputs_in t (told_outputs words u)) (not_yet u t (omega (arith, is)))
+            ∙ subst (λ k. outputs_in t (told_outputs words k) ≡ told_outputs words t) (sym is) (own_outputs t)
         | inr other ↦ rw (other_outputs t u other, in_logs u t (omega (arith, other, lt))) (append-nil (told_outputs words t))
       ]
 
   each_until : (P : Output → Type 0) (count : ℕ) → ((t n : ℕ) → t < count → n < committed words t header.outputs → P (told_output words t n)) → All P (outputs_until words count)
   each_until P zero each = All-nil P
   each_until P (suc t) each =
-      All-append P (outputs_until words t) (told_outputs words t) (each_until P t (λ u n lt less. each u n (omega arith) less)) (each_told P t (λ n less. each t n (omega arith) less))
+      All-append P (outputs_until words t) (told_outputs words t) (each_until P t (λ u n lt less. each u n (omega arith) less))
+      (each_told P t (λ n less. each t n (omega arith) less))
 
   -- each is of a thread of the program, and its value has 32 bits
   pub outputs_right : (program : Program) → All (IsOutputOf program) (outputs_until words (length program.threads))
@@ -60,6 +62,6 @@ module _ (words : Memory) where
   log_rises program t image known =
       IsNonDecreasingBy-from_all_adjacent (λ (o : Output). o.stamp) (told_outputs words t)
       (λ k d lt.
-        let is = count_is t in
-        let right = image.logs t (k + 1) known (omega (arith, is, lt)) in
-        subst (λ (z : Output × Output). z.0.stamp ≤ z.1.stamp) (λ i. (sym (output_is t k d (omega arith)) i, sym (output_is t (k + 1) d lt) i)) (right.ordered k refl))
+      let is = count_is t in
+      let right = image.logs t (k + 1) known (omega (arith, is, lt)) in
+      subst (λ (z : Output × Output). z.0.stamp ≤ z.1.stamp) (λ i. (sym (output_is t k d (omega arith)) i, sym (output_is t (k + 1) d lt) i)) (right.ordered k refl))

@@ -1,14 +1,14 @@
 -- A stable sort by stamps leaves the outputs of each thread as they stand in its log.
-use Rattle.image_state.proofs.Common.{◌≡◌, ◌≢◌, inl, inr, ℕ, zero, suc, ◌+◌, ◌<◌, ◌≤◌, ◌==◌, Bool, true, false, cond, List, [], ◌∷◌, length, get_or, refl, sym, ap, ◌∙◌, subst, arith, nat_lt, le-ltb, lt-ltb, filter, All, cases_lt, cases_Bool, Output, IsNonDecreasingBy, IsPermutation, outputs_in, AreInOrder}
+use Rattle.image_state.proofs.Common.{◌≡◌, ◌≢◌, inl, inr, ℕ, suc, ◌<◌, ◌≤◌, ◌==◌, Bool, true, false, cond, List, [], ◌∷◌, length, get_or, refl, sym, ap, ◌∙◌, arith, le-ltb, lt-ltb, filter, cases_lt, cases_Bool, Output, IsNonDecreasingBy, IsPermutation, AreInOrder}
 use Rattle.std.specs.List.Sorted.{IsStableByKey, ties}
 use Rattle.std.specs.Ordering.{is_lt, nat_cmp}
 use Rattle.std.proofs.lemmas.List.Kept.{IsNonDecreasingBy-filter}
 
 -- what a comparison of numbers tells
-is_less : (a b : ℕ) → a < b → is_lt (nat_cmp a b) ≡ true
+pub is_less : (a b : ℕ) → a < b → is_lt (nat_cmp a b) ≡ true
 is_less a b less = rw (lt-ltb a b less) refl
 
-not_less : (a b : ℕ) → b ≤ a → is_lt (nat_cmp a b) ≡ false
+pub not_less : (a b : ℕ) → b ≤ a → is_lt (nat_cmp a b) ≡ false
 not_less a b le = rw (le-ltb a b le) (elim (cases_Bool (a == b)) [ inl same ↦ rw same refl | inr other ↦ rw other refl ])
 
 -- an output comes before another by its stamp
@@ -102,7 +102,8 @@ module _ {X : Type 0} (n : X → ℕ) (p : X → X → Bool) (tie : (x y : X) �
       ]
 
   -- a part of a list by another test is left by a stable sort as it was, where it didn't fall before
-  pub part_kept : (q : X → Bool) (xs ys : List X) → IsNonDecreasingBy n ys → ((x : X) → filter (p x) ys ≡ filter (p x) xs) → IsNonDecreasingBy n (filter q xs) → filter q ys ≡ filter q xs
+  pub part_kept : (q : X → Bool) (xs ys : List X) → IsNonDecreasingBy n ys → ((x : X) → filter (p x) ys ≡ filter (p x) xs) →
+      IsNonDecreasingBy n (filter q xs) → filter q ys ≡ filter q xs
   part_kept q xs ys rise same up =
       same_likes (filter q ys) (filter q xs) (IsNonDecreasingBy-filter n q ys rise) up
       (λ x. filter-swap (p x) q ys ∙ (ap (filter q) (same x) ∙ filter-swap q (p x) xs))

@@ -1,5 +1,5 @@
 -- What the words tell of a page that a thread doesn't have.
-use Rattle.image_state.proofs.Common.{◌≡◌, inl, inr, ℕ, zero, suc, ◌+◌, ◌*◌, ◌/◌, ◌%◌, ◌<◌, ◌≤◌, ◌&&◌, ◌++◌, Bool, true, false, List, [], ◌∷◌, length, map, get_or, refl, sym, ◌∙◌, subst, arith, le-ltb, slice_index, Program, ThreadDef, thread_def, no_thread_def, Page, Commit, place_in, committed, pages_of, thread_shape, shape_of, by_place}
+use Rattle.image_state.proofs.Common.{◌≡◌, ℕ, zero, suc, ◌*◌, ◌/◌, ◌%◌, ◌<◌, ◌≤◌, ◌&&◌, ◌++◌, Bool, true, false, List, [], ◌∷◌, length, map, get_or, refl, sym, ◌∙◌, subst, arith, le-ltb, slice_index, Program, ThreadDef, thread_def, no_thread_def, Page, Commit, place_in, committed, pages_of, thread_shape, shape_of, by_place}
 use Rattle.std.specs.Int.{bit_at}
 use Rattle.fram_words.specs.Shape.{is_valid, regions, region, has_indices, thread_regions, queue_regions}
 use Rattle.ink_layout.proofs.Regions.{at_right}
@@ -29,7 +29,8 @@ no_page program t p b k known past =
     false_second (has_indices (shape_of program) (Page t p b k)) _ (le-ltb _ _ (omega (arith, size)))
 
 -- a word of a committed copy beyond the thread's pages is 0
-pub beyond_pages : (program : Program) (words : List ℕ) (t w : ℕ) → t < length program.threads → 8 * pages_of (thread_def program t) ≤ w → committed (by_place program words) t w ≡ 0
+pub beyond_pages : (program : Program) (words : List ℕ) (t w : ℕ) → t < length program.threads → 8 * pages_of (thread_def program t) ≤ w →
+    committed (by_place program words) t w ≡ 0
 beyond_pages program words t w known past =
     let mask : ℕ = by_place program words (Commit t) in
     nothing_at program words (place_in t mask w) (no_page program t (w / 8) (bit_at mask (w / 8)) (w % 8) known (omega arith))

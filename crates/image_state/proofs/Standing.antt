@@ -1,5 +1,5 @@
 -- What is read off an image that isn't worn: it is in its range, and the words stand for it.
-use Rattle.image_state.proofs.Common.{◌≡◌, inl, inr, ℕ, ◌+◌, ◌<◌, ◌≤◌, List, length, get_or, replicate, ◌∙◌, arith, cases_lt, slice_index, get_or-map-range_with_len, length-replicate, Program, Memory, pages_of, thread_def, committed, by_place, IsAccepted, Model, source_of, told_source, IsImage, IsReadOff, IsWorn, ManyReadings, IsTold, HasFewSettled, each_below, Stands, AreListed, EveryImageStands}
+use Rattle.image_state.proofs.Common.{inl, inr, ℕ, ◌+◌, List, [], length, replicate, ap, ◌∙◌, arith, cases_lt, slice_index, get_or-map-range_with_len, length-replicate, Program, Memory, by_place, IsAccepted, Model, source_of, told_source, IsImage, IsReadOff, IsWorn, ManyReadings, IsTold, HasFewSettled, each_below, Stands, AreListed, EveryImageStands}
 use Rattle.ink_base.specs.declared.limits.TheConstants as limits
 use Rattle.image_state.proofs.Pages.{beyond_pages}
 use Rattle.image_state.proofs.States.{reads_off}
@@ -28,7 +28,8 @@ are_listed program listed m i known =
     ∙ length-replicate ((source_of m i).next + slice_index listed i) 0
 
 -- and by the law of images they stand for it
-pub words_stand : EveryImageStands → (program : Program) (listed : List ℕ) (words : Memory) (m : Model) → IsAccepted program → IsImage program words → ¬ IsWorn program listed words →
+pub words_stand : EveryImageStands → (program : Program) (listed : List ℕ) (words : Memory) (m : Model) → IsAccepted program → IsImage program words →
+    ¬ IsWorn program listed words →
     IsReadOff program words m → Stands words program m
 words_stand law program listed words m accepted image fresh read =
     (law program (each_below (readings_behind m listed) (length program.sources)) listed words m accepted image fresh read (are_listed program listed m)).stands

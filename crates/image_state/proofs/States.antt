@@ -1,5 +1,5 @@
 -- The state that the words of an image tell is the one that is read off them.
-use Rattle.image_state.proofs.Common.{◌≡◌, inl, inr, ℕ, ◌+◌, ◌-◌, ◌*◌, ◌%◌, ◌^◌, ◌<◌, ◌≤◌, ◌==◌, Bool, true, false, if◌then◌else◌, nat_lt, List, length, Option, Some, None, refl, sym, ap, ◌∙◌, subst, arith, cases_Bool, and_parts, ltb-true, eqb-true, slice_index, map, get_or-map, get_or-map-range_with_len, length-map-range_with_len, All, All-permutation, ForSome, ForNone, Event, Output, Program, Memory, Commit, Log, Ring, next_word, origin_word, due_word, due_of, output_word, committed, pages_of, thread_def, pipe_def, timer_def, IsAccepted, Model, ThreadModel, PipeModel, TimerModel, SourceModel, thread_of, pipe_of, timer_of, source_of, no_thread, no_pipe, no_timer, no_source, queue_of, source_in, outputs_of, outputs_in, IsNonDecreasingBy, HasEventOf, HasShape, IsOwnOrigin, IsOutputOf, IsReadOff, IsImage, Saved, saved, flag, writes_pipe, reads_pipe, owns_timer, written_word, taken_word, timer_word, period_word, StandsThread, StandsPipe, StandsPrivate, AreLogged, log_of, taken_of, written_of, told_item, told_pipe, told_timer, told_thread, told_source_model, told_output, told_outputs, outputs_until, state_number, each_below, IsTold}
+use Rattle.image_state.proofs.Common.{◌≡◌, inl, inr, ℕ, ◌+◌, ◌-◌, ◌*◌, ◌%◌, ◌<◌, ◌≤◌, Bool, if◌then◌else◌, List, length, Some, None, refl, sym, ap, ◌∙◌, subst, arith, cases_Bool, and_parts, ltb-true, eqb-true, slice_index, get_or-map, get_or-map-range_with_len, length-map-range_with_len, All, All-permutation, ForSome, ForNone, Event, Output, Program, Memory, Log, Ring, next_word, origin_word, due_word, output_word, committed, pages_of, thread_def, pipe_def, timer_def, IsAccepted, Model, ThreadModel, PipeModel, TimerModel, SourceModel, thread_of, pipe_of, timer_of, source_of, no_thread, no_pipe, no_timer, no_source, queue_of, source_in, outputs_of, outputs_in, IsNonDecreasingBy, HasEventOf, HasShape, IsOwnOrigin, IsOutputOf, IsReadOff, IsImage, saved, flag, writes_pipe, reads_pipe, owns_timer, written_word, taken_word, timer_word, period_word, StandsThread, StandsPipe, AreLogged, log_of, taken_of, written_of, told_item, told_pipe, told_timer, told_thread, told_source_model, told_output, told_outputs, outputs_until, state_number, IsTold}
 use Rattle.ink_base.specs.declared.limits.TheConstants as limits
 use Rattle.fram_words.specs.Header as header
 use Rattle.image_state.proofs.Blocks.{AreWords, block_says}
@@ -42,18 +42,23 @@ module _ (program : Program) (words : Memory) (m : Model) (accepted : IsAccepted
   taken_is : (q : ℕ) → q < length program.pipes → (pipe_of m q).taken ≡ taken_of program words q
   taken_is q known = ap (λ (p : PipeModel). p.taken) (pipe_is q known)
 
+  written_sum : (q : ℕ) → q < length program.pipes → written_of program words q ≡ (pipe_of m q).taken + length (pipe_of m q).items
+  written_sum q known =
+      let taken = taken_is q known in
+      let items = items_are q known in
+      let ordered = (image.pipes q known).counts.ordered in
+      omega (arith, taken, items, ordered)
+
   module _ (t : ℕ) (known : t < length program.threads) where
     written_told : (q : ℕ) → q < limits.PIPES → committed words t (header.written q) ≡ written_word program m t q
     written_told q few =
-        let count : ℕ = (pipe_of m q).taken + length (pipe_of m q).items in
         elim (cases_Bool (writes_pipe program t q)) [
           | inl own ↦
               let there : q < length program.pipes = ltb-true _ _ (and_parts _ _ own).0 in
               let writer : (pipe_def program q).writer.0 ≡ t = eqb-true _ _ (and_parts _ _ own).1 in
               let here : committed words t (header.written q) ≡ written_of program words q = ap (λ u. committed words u (header.written q)) (sym writer) in
-              let sum : committed words t (header.written q) ≡ (pipe_of m q).taken + length (pipe_of m q).items =
-              (let taken = taken_is q there in let items = items_are q there in let le = (image.pipes q there).counts.ordered in omega (arith, here, taken, items, le)) in
-              sum ∙ sym (ap (λ (b : Bool). if b then (pipe_of m q).taken + length (pipe_of m q).items else 0) own)
+              let sum : written_of program words q ≡ (pipe_of m q).taken + length (pipe_of m q).items = written_sum q there in
+              here ∙ sum ∙ sym (ap (λ (b : Bool). if b then (pipe_of m q).taken + length (pipe_of m q).items else 0) own)
           | inr not ↦ (checked program words accepted image t known (header.written q) (omega arith)).written q few refl not
               ∙ sym (ap (λ (b : Bool). if b then (pipe_of m q).taken + length (pipe_of m q).items else 0) not)
         ]
@@ -88,7 +93,8 @@ module _ (program : Program) (words : Memory) (m : Model) (accepted : IsAccepted
           | inl own ↦
               let there : j < length program.timers = ltb-true _ _ (and_parts _ _ own).0 in
               let thread : (timer_def program j).thread.0 ≡ t = eqb-true _ _ (and_parts _ _ own).1 in
-              ap (λ u. committed words u (header.period j)) (sym thread) ∙ (sym (ap (λ (x : TimerModel). x.period) (timer_is j there)) ∙ sym (ap (λ (b : Bool). if b then (timer_of m j).period else 0) own))
+              ap (λ u. committed words u (header.period j)) (sym thread)
+              ∙ (sym (ap (λ (x : TimerModel). x.period) (timer_is j there)) ∙ sym (ap (λ (b : Bool). if b then (timer_of m j).period else 0) own))
           | inr not ↦ (checked program words accepted image t known (header.period j) (omega arith)).foreign_period j few refl not
               ∙ sym (ap (λ (b : Bool). if b then (timer_of m j).period else 0) not)
         ]
@@ -109,7 +115,8 @@ module _ (program : Program) (words : Memory) (m : Model) (accepted : IsAccepted
           due = due_told;
           period = period_told;
           unused = λ w from below. (checked program words accepted image t known w below).unused from below;
-          state = λ w behind. state_told program words accepted image t known (λ v. beyond t v known) w behind ∙ sym (ap (λ (x : ThreadModel). slice_index x.state (w - header.words)) is);
+          state = λ w behind. state_told program words accepted image t known (λ v. beyond t v known) w behind
+              ∙ sym (ap (λ (x : ThreadModel). slice_index x.state (w - header.words)) is);
         }
 
     -- the outputs stand in the log
@@ -127,8 +134,8 @@ module _ (program : Program) (words : Memory) (m : Model) (accepted : IsAccepted
       origin = committed words t header.origin;
       value = committed words t header.value;
       block = block_says (committed words t) (saved program m t) words_are;
-      event = subst (λ (x : ThreadModel). ForSome x.event (λ e. (committed words t header.origin ≡ origin_word e.origin) × (committed words t header.value ≡ e.value))) (sym (thread_is t known))
-          (words_told program words accepted image t known);
+      event = subst (λ (x : ThreadModel). ForSome x.event (λ e. (committed words t header.origin ≡ origin_word e.origin) × (committed words t header.value ≡ e.value)))
+          (sym (thread_is t known)) (words_told program words accepted image t known);
       log = logged;
       reached = subst (All (λ (o : Output). o.stamp ≤ committed words t header.stamp)) (sym (outputs_are t known))
           (each_told words (λ (o : Output). o.stamp ≤ committed words t header.stamp) t (λ n lt. (image.logs t n known lt).most));
@@ -138,16 +145,16 @@ module _ (program : Program) (words : Memory) (m : Model) (accepted : IsAccepted
     event_of : HasEventOf program m t
     event_of = record {
       idle = subst (λ (x : ThreadModel). ForNone x.running (x.event ≡ None)) (sym (thread_is t known)) (idle_told program words accepted image t known);
-      chain = subst (λ (x : ThreadModel). ForSome x.running (λ task. (e : Event) × (x.event ≡ Some e) × IsOwnOrigin program t e.origin)) (sym (thread_is t known)) (chain_told program words accepted image t known);
+      chain = subst (λ (x : ThreadModel). ForSome x.running (λ task. (e : Event) × (x.event ≡ Some e) × IsOwnOrigin program t e.origin))
+          (sym (thread_is t known)) (chain_told program words accepted image t known);
     }
 
   pipe_stands : (q : ℕ) → q < length program.pipes → StandsPipe words program m q
   pipe_stands q known =
       subst (λ (p : PipeModel). (k : ℕ) → k < length p.items → words (Ring q ((p.taken + k) % (pipe_def program q).places)) ≡ slice_index p.items k) (sym (pipe_is q known))
       (λ k lt.
-        let count : ℕ = written_of program words q - taken_of program words q in
-        let is = length-map-range_with_len (told_item program words q) 0 (written_of program words q - taken_of program words q) in
-        sym (get_or-map-range_with_len (told_item program words q) 0 (written_of program words q - taken_of program words q) k k 0 (omega (arith, is, lt)) (omega arith)))
+      let is = length-map-range_with_len (told_item program words q) 0 (written_of program words q - taken_of program words q) in
+      sym (get_or-map-range_with_len (told_item program words q) 0 (written_of program words q - taken_of program words q) k k 0 (omega (arith, is, lt)) (omega arith)))
 
   shape_is : HasShape program m
   shape_is = record {

@@ -1,7 +1,6 @@
 -- The test of an image answers whether it is worn.
-use Rattle.image_state.proofs.Common.{◌≡◌, inl, inr, ℕ, zero, suc, ◌+◌, ◌^◌, ◌<◌, ◌≤◌, ◌||◌, nat_le, nat_lt, Bool, true, false, List, length, refl, sym, ◌∙◌, subst, arith, cases_lt, cases_eq, slice_index, lt-ltb, ltb-true, le-leb, leb-true, or_cases, or_from, or_left, or_right, Program, Memory, Clock, committed, published, greatest_tail, told_queue, told_source, taken_of, written_of, IsWorn, ManyReadings, LateClock, ManyCommits, ManyServices, ManyWritten, ManyTaken, ManyPositions, listed_into, any_below, is_high, wears, wears_source, wears_thread, wears_queue, wears_pipe}
+use Rattle.image_state.proofs.Common.{◌≡◌, inl, inr, ℕ, zero, suc, ◌+◌, ◌^◌, ◌<◌, ◌≤◌, nat_le, Bool, true, false, List, length, subst, arith, cases_eq, lt-ltb, ltb-true, le-leb, leb-true, or_cases, or_from, or_left, or_right, Program, Memory, Clock, committed, written_of, IsWorn, ManyReadings, LateClock, ManyCommits, ManyServices, ManyWritten, ManyTaken, ManyPositions, any_below, is_high, wears, wears_source, wears_thread, wears_queue, wears_pipe}
 use Rattle.fram_words.specs.Header as header
-use Rattle.ink_base.specs.declared.limits.TheConstants as limits
 
 -- one that passes is below the count
 pub any_from : (test : ℕ → Bool) (count n : ℕ) → n < count → test n ≡ true → any_below test count ≡ true

@@ -2,6 +2,8 @@
 
 ghost use Rattle.std.specs.Prelude.{◌≡◌, ◌%◌, ◌<◌, ◌≤◌, length, IfOk};
 ghost use Rattle.fram_words.specs.Places.{Ring};
+ghost use Rattle.fram_words.specs.Steps.{place_of};
+ghost use Rattle.ink_layout.specs.Shape.{IsOnBoard};
 ghost use Rattle.prog_check.specs.Lookup.{pipe_def, timer_def};
 ghost use Rattle.never_cut.specs.Image.{taken_of, written_of};
 ghost use Rattle.image_state.specs.Words.{by_place};
@@ -34,12 +36,7 @@ pub(crate) fn pipes_told(
 }
 
 #[tactic(auto, using(crate::proofs::Each::each_more))]
-fn pipe_told(
-    alloc: Global,
-    plan: &Plan,
-    words: &[u64],
-    pipe: PipeId,
-) -> Result<PipeModel, NoMemory>
+fn pipe_told(alloc: Global, plan: &Plan, words: &[u64], pipe: PipeId) -> Result<PipeModel, NoMemory>
     requires image { IsImageOf plan.now.accepted words.now }
     requires known { pipe.0 < length plan.now.accepted.pipes }
     ensures { IfOk result (λ x. x ≡ told_pipe plan.now.accepted (by_place plan.now.accepted words.now) pipe.0) }
@@ -64,9 +61,20 @@ fn item_told(plan: &Plan, words: &[u64], pipe: PipeId, number: u64) -> u32
     requires there { number < written_of plan.now.accepted (by_place plan.now.accepted words.now) pipe.0 }
     ensures { result ≡ by_place plan.now.accepted words.now (Ring pipe.0 (number % (pipe_def plan.now.accepted pipe.0).places)) }
 {
+    word_at(plan, words, ring_place(plan, pipe, number)) as u32
+}
+
+// Where the item of this number stands, in the ring of its pipe.
+fn ring_place(plan: &Plan, pipe: PipeId, number: u64) -> Place
+    requires { pipe.0 < length plan.now.accepted.pipes }
+    ensures place { place_of result ≡ Ring pipe.0 (number % (pipe_def plan.now.accepted pipe.0).places) }
+    ensures there { IsOnBoard plan.now.accepted (place_of result) }
+{
     let places = plan.program().pipes.as_slice()[pipe.0 as usize].places;
-    let index = (number % places as u64) as u32;
-    word_at(plan, words, Place::Ring { pipe, index }) as u32
+    Place::Ring {
+        pipe,
+        index: (number % places as u64) as u32,
+    }
 }
 
 /// The timers in order.
@@ -92,6 +100,8 @@ fn timer_told(plan: &Plan, words: &[u64], timer: TimerId) -> TimerModel
     requires known { timer.0 < length plan.now.accepted.timers }
     ensures { result ≡ told_timer plan.now.accepted (by_place plan.now.accepted words.now) timer.0 }
 {
+    // The program is accepted, so its timers are few.
+    let _program = plan.program();
     let thread = owner(plan, timer);
     let due = header_word(plan, words, thread, Header::Due(timer.0 as u32));
     let period = header_word(plan, words, thread, Header::Period(timer.0 as u32));

@@ -14,6 +14,7 @@ use ink_layout::Plan;
 use std::alloc::Global;
 
 /// The outputs of all threads in the order of their stamps, those of one stamp in the order of their log.
+#[tactic(auto, using(crate::proofs::Each::until_more))]
 pub(crate) fn outputs_told(
     alloc: Global,
     plan: &Plan,
@@ -31,7 +32,6 @@ pub(crate) fn outputs_told(
 }
 
 // Adds the outputs of a thread, as they stand in its log.
-#[tactic(auto, using(crate::proofs::Each::each_more))]
 fn put_outputs(
     outputs: &mut Vec<Output>,
     plan: &Plan,
@@ -67,10 +67,7 @@ fn output_told(plan: &Plan, words: &[u64], thread: ThreadId, index: u32) -> Outp
     requires within { index < (thread_def plan.now.accepted thread.0).log }
     ensures { result ≡ told_output (by_place plan.now.accepted words.now) thread.0 index }
 {
-    read_output(
-        thread,
-        word_at(plan, words, Place::Log { thread, index }),
-    )
+    read_output(thread, word_at(plan, words, Place::Log { thread, index }))
 }
 
 // These outputs in the order of their stamps.

@@ -59,12 +59,7 @@ fn newest_stamp(plan: &Plan, words: &[u64]) -> u64
 {
     let mut newest = 0;
     for t in 0..plan.program().threads.len() {
-        newest = newest.max(header_word(
-            plan,
-            words,
-            ThreadId(t as u8),
-            Header::Stamp,
-        ));
+        newest = newest.max(header_word(plan, words, ThreadId(t as u8), Header::Stamp));
     }
     newest
 }

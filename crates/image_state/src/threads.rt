@@ -106,6 +106,8 @@ fn event_told(plan: &Plan, words: &[u64], thread: ThreadId) -> Option<Event>
     requires known { thread.0 < length plan.now.accepted.threads }
     ensures { result ≡ told_event (by_place plan.now.accepted words.now) thread.0 }
 {
+    // The program is accepted, so its numbers fit the bits of an origin.
+    let _program = plan.program();
     if header_word(plan, words, thread, Header::Next) == 0 {
         None
     } else {

@@ -7,16 +7,13 @@ use Rattle.thread_state.specs.Pages.{committed}
 use Rattle.prog_check.specs.Lookup.{thread_def}
 use Rattle.never_cut.specs.Image.{stamp_at}
 use Rattle.image_checks.specs.Failing.{HoldsBelow}
+pub use Rattle.image_checks.specs.Failing.{OutputsFit}
 
 -- below a count P holds of the numbers before the end, and not of the end where that is below the count
 pub record IsEnd (P : ℕ → Type 0) (count end : ℕ) : Type 0 where
   pub within : end ≤ count
   pub before : HoldsBelow P end
   pub fails : end < count → ¬ P end
-
--- no thread has more outputs than places for them
-abbrev pub OutputsFit : Program → Memory → Type 0
-OutputsFit program words = HoldsBelow (λ t. committed words t header.outputs ≤ (thread_def program t).log) (length program.threads)
 
 -- the stamp of an output is from 1 to the thread's own, and isn't less than the one before it
 pub record IsInOrder (words : Memory) (t n : ℕ) : Type 0 where

@@ -11,7 +11,7 @@ returns-clause-read c =
     let program = c.args.plan.now.accepted in
     let words = c.args.words.now in
     IfOk-weaker c.model_told.result (IsTold program (by_place program words)) (IsReadOff program (by_place program words))
-    (λ m told. off_words program words m c.program.ensures.accepted c.requires.image told) c.model_told.ensures
+    (λ m told. off_words program words m c.program-program.ensures.accepted c.requires.image told) c.model_told.ensures
 
 pub returns-clause-stands : goal.returns-clause-stands
 returns-clause-stands c =
@@ -19,5 +19,5 @@ returns-clause-stands c =
     let words = c.args.words.now in
     IfOk-weaker c.model_told.result (IsTold program (by_place program words)) (λ (m : Model). Stands (by_place program words) program m)
     (λ m told.
-      words_stand c.images_stand.ensures.stands program c.requires.fresh.0 (by_place program words) m c.program.ensures.accepted c.requires.image c.requires.fresh.1
-      (off_words program words m c.program.ensures.accepted c.requires.image told)) c.model_told.ensures
+    words_stand c.images_stand.ensures.stands program c.requires.fresh.0 (by_place program words) m c.program-program.ensures.accepted c.requires.image c.requires.fresh.1
+    (off_words program words m c.program-program.ensures.accepted c.requires.image told)) c.model_told.ensures
