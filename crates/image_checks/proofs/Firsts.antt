@@ -1,5 +1,5 @@
 -- The seven checks together: they make an image, an image passes them, and the place at which one of them fails is on the board.
-use Rattle.std.proofs.Common.{ℕ, ◌+◌, ◌*◌, ◌/◌, ◌%◌, ◌<◌, ◌≤◌, length, arith}
+use Rattle.std.proofs.Common.{ℕ, ◌+◌, ◌*◌, ◌%◌, ◌<◌, length, arith}
 use Rattle.task_isa.specs.declared.program.Program.{Program}
 use Rattle.fram_words.specs.Places.{Place, Memory, Slot}
 use Rattle.fram_words.specs.Header as header

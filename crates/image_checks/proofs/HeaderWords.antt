@@ -1,11 +1,10 @@
 -- The check of blocks at one word, from what is asked of the header's word that it is, or of a word behind the header.
-use Rattle.std.proofs.Common.{◌≡◌, ℕ, zero, suc, ◌+◌, ◌*◌, ◌<◌, ◌≤◌, List, [], ◌∷◌, refl, sym, ◌∙◌, ap, subst, arith, inl, inr}
+use Rattle.std.proofs.Common.{◌≡◌, ℕ, zero, suc, ◌+◌, ◌<◌, ◌≤◌, List, [], ◌∷◌, refl, sym, ◌∙◌, ap, subst, arith, inl, inr}
 use Rattle.std.specs.Prelude.{slice_index_or}
 use Rattle.std.proofs.lemmas.Bool.{cases_lt}
 use Rattle.task_isa.specs.declared.program.Program.{Program}
 use Rattle.fram_words.specs.Places.{Memory}
 use Rattle.fram_words.specs.Header.{IsHeader, word_of, due, words}
-use Rattle.fram_words.specs.Header as header
 use Rattle.fram_words.specs.declared.header.Header.{Header}
 use Rattle.fram_words.specs.declared.header.Header.TheVariants.{Stamp, Next, First, Origin, Value, Finished, Served, Trapped, Expired, Outputs, Written, Taken, Due, Period}
 use Rattle.prog_check.specs.Lookup.{thread_def}

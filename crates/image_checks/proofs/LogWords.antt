@@ -1,12 +1,12 @@
 -- Logs: what the two parts of their check make of each other.
-use Rattle.std.proofs.Common.{◌≡◌, ◌≢◌, ℕ, zero, suc, ◌+◌, ◌-◌, ◌<◌, ◌≤◌, inl, inr, ap, refl, subst, arith, below_more, length}
+use Rattle.std.proofs.Common.{◌≡◌, ℕ, zero, suc, ◌+◌, ◌-◌, ◌<◌, ◌≤◌, inl, inr, ap, refl, subst, arith, below_more}
 use Rattle.std.proofs.lemmas.Bool.{cases_lt}
 use Rattle.task_isa.specs.declared.program.Program.{Program}
 use Rattle.fram_words.specs.Places.{Memory}
 use Rattle.fram_words.specs.Header as header
 use Rattle.thread_state.specs.Pages.{committed}
 use Rattle.never_cut.specs.Image.{IsLogWord, stamp_at}
-use Rattle.image_checks.specs.Failing.{BlocksHold, HoldsBelow, IsFirstFault, IsLog}
+use Rattle.image_checks.specs.Failing.{BlocksHold, HoldsBelow}
 use Rattle.image_checks.specs.kept.Logs.{AreLower, AreRising, IsApart, IsApartFromFirst, IsEnd, IsInOrder, IsLeast, IsPast, OutputsFit}
 
 -- where the blocks are right, outputs fit their logs

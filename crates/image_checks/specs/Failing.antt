@@ -128,7 +128,7 @@ pub data IsSourceFault (program : Program) (words : Memory) (i : ℕ) : Place �
   SrcFails : ¬ IsSrcWord words i → IsSourceFault program words i (Src i)
   EventFails : (j : ℕ) → IsSrcWord words i → IsFirstFault (IsCountWord program words i) (length (held_for program words i)) j →
       IsSourceFault program words i
-        (Slot (source_thread program i) ((told_released program words (source_thread program i) + j) % (thread_def program (source_thread program i)).queue))
+      (Slot (source_thread program i) ((told_released program words (source_thread program i) + j) % (thread_def program (source_thread program i)).queue))
   AckFails : IsSrcWord words i → AreCounts program words i → ¬ IsAckWord program words i → IsSourceFault program words i (Ack i)
 
 -- the first place at which check 1 fails

@@ -47,7 +47,12 @@ pub(crate) fn is_origin_word(plan: &Plan, words: &[u64], thread: ThreadId) -> bo
     ensures { IsTrue result ↔ IsRightOrigin plan.now.accepted (board plan.now.accepted words.now) thread.0 }
 {
     !has_chain(plan, words, thread)
-        || is_chain_word(plan, words, thread, header_word(plan, words, thread, Header::Origin))
+        || is_chain_word(
+            plan,
+            words,
+            thread,
+            header_word(plan, words, thread, Header::Origin),
+        )
 }
 
 // Whether a chain of the thread runs.
@@ -104,7 +109,8 @@ fn is_taken_last(plan: &Plan, words: &[u64], thread: ThreadId, origin: Origin) -
     let _program = plan.program();
     match origin {
         Origin::Pipe { pipe, item } => {
-            u64::from(item) + 1 == header_word(plan, words, thread, Header::Taken(u32::from(pipe.0)))
+            u64::from(item) + 1
+                == header_word(plan, words, thread, Header::Taken(u32::from(pipe.0)))
         }
         _ => true,
     }

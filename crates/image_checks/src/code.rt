@@ -9,8 +9,8 @@ ghost use Rattle.never_cut.specs.Image.{IsCodeWord, IsCommitWord};
 ghost use Rattle.image_checks.specs.Board.{board};
 ghost use Rattle.image_checks.specs.Failing.{CodeHolds, CommitWordsHold, FindsFault, IsFirstCodeFault, IsFirstCommitFault};
 
-use fram_words::Place;
 use crate::blocks::page_count;
+use fram_words::Place;
 use image_told::word_at;
 use ink_base::{TaskId, ThreadId};
 use ink_layout::Plan;
@@ -53,7 +53,9 @@ fn code_of(plan: &Plan, task: TaskId) -> &[Instr]
     ensures code { result.now ≡ (task_def plan.now.accepted task.0).code }
     ensures few { length result.now ≤ limits.INSTRUCTIONS }
 {
-    plan.program().tasks.as_slice()[usize::from(task.0)].code.as_slice()
+    plan.program().tasks.as_slice()[usize::from(task.0)]
+        .code
+        .as_slice()
 }
 
 /// The first commit word with a bit at or above the number of its thread's pages.

@@ -67,8 +67,10 @@ pub(crate) fn is_header_word(plan: &Plan, words: &[u64], thread: ThreadId, heade
         Header::Written(pipe) => word == 0 || writes(plan, thread, pipe),
         Header::Taken(pipe) => word == 0 || reads(plan, thread, pipe),
         Header::Due(timer) => word == 0 || word <= 1 << 48 && owns(plan, thread, timer),
-        Header::Period(timer) => word == 0 || word <= u64::from(u32::MAX) && owns(plan, thread, timer),
-        Header::Stamp | Header::Finished | Header::Served | Header::Trapped | Header::Expired => true,
+        Header::Period(timer) => word == 0
+            || word <= u64::from(u32::MAX) && owns(plan, thread, timer),
+        Header::Stamp | Header::Finished | Header::Served | Header::Trapped | Header::Expired =>
+            true,
     }
 }
 

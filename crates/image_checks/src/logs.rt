@@ -139,7 +139,14 @@ fn apart_until(plan: &Plan, words: &[u64], other: ThreadId, thread: ThreadId, en
 }
 
 // The first output of a thread, from one on, whose stamp isn't lower than this one, or their number.
-fn past_lower(plan: &Plan, words: &[u64], thread: ThreadId, from: u32, count: u32, sought: u64) -> u32
+fn past_lower(
+    plan: &Plan,
+    words: &[u64],
+    thread: ThreadId,
+    from: u32,
+    count: u32,
+    sought: u64,
+) -> u32
     requires count { length words.now ≡ words_of (shape_of plan.now.accepted) }
     requires known { thread.0 < length plan.now.accepted.threads }
     requires within { count ≤ (thread_def plan.now.accepted thread.0).log }

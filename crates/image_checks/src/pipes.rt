@@ -73,7 +73,12 @@ fn written_place(plan: &Plan, words: &[u64], pipe: PipeId) -> Place
     ensures { place_of result ≡ failing.block_place (board plan.now.accepted words.now) (pipe_def plan.now.accepted pipe.0).writer.0 (header.written pipe.0) }
 {
     let writer = plan.program().pipes.as_slice()[usize::from(pipe.0)].writer;
-    block_place(plan, words, writer, Header::Written(u32::from(pipe.0)).word())
+    block_place(
+        plan,
+        words,
+        writer,
+        Header::Written(u32::from(pipe.0)).word(),
+    )
 }
 
 // The first item whose word has more than 32 bits.

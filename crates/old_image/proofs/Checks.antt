@@ -140,8 +140,7 @@ pub rises_told : (program : Program) (words : Memory) (i place : ℕ) (e : OldEv
     (IsTrue r ↔ ComesAfter i e after) → (IsTrue r ↔ IsRisingReading program words i place)
 rises_told program words i place e after {r} lt is so_far test =
     let told : (IsTrue r ↔ ComesAfter i (old_event_at (old_held_for program words i) place) (after_held i (take place (old_held_for program words i)))) =
-        subst (λ (z : OldEvent × ℕ). IsTrue r ↔ ComesAfter i z.0 z.1) (λ k. (is k, so_far k)) test in
-    (
+    subst (λ (z : OldEvent × ℕ). IsTrue r ↔ ComesAfter i z.0 z.1) (λ k. (is k, so_far k)) test in (
       λ yes own. rising program words i place lt (told.0 yes own) own,
       λ rises. told.1 (λ own. above program words i place lt own rises),
     )
@@ -176,3 +175,48 @@ module _ (program : Program) (t word number : ℕ) (accepted : IsAccepted progra
     λ yes. absurd (let clash : false ≡ true = sym failed ∙ yes in cc),
     λ w. absurd (let same = source_number w in let few = accepted.counts.sources in let lt = w.known in omega arith),
   )
+
+module _ (program : Program) (words : Memory) (t : ℕ) where
+  -- of the origin nothing but the origin itself is asked
+  pub block_at_origin : (HasChain words t → (o : Origin) × (committed words t header.origin ≡ origin_word o) × IsChainOrigin program words t o) →
+      IsBlockWord program words t header.origin
+  block_at_origin right = record {
+    next = λ at. absurd (omega arith);
+    first = λ at. absurd (omega arith);
+    origin = λ at runs. right runs;
+    value = λ at. absurd (omega arith);
+    outputs = λ at. absurd (omega arith);
+    written = λ q lt at. absurd (omega arith);
+    taken = λ q lt at. absurd (omega arith);
+    due = λ j lt at. absurd (omega arith);
+    period = λ j lt at. absurd (omega arith);
+    foreign_due = λ j lt at. absurd (omega arith);
+    foreign_period = λ j lt at. absurd (omega arith);
+    unused = λ from. absurd (omega arith);
+    state = λ from. absurd (omega arith);
+    rest = λ from. absurd (omega arith);
+  }
+
+  -- another word is right where it is today
+  pub other_word : {r : Bool} (w : ℕ) → w ≢ header.origin → (IsTrue r ↔ IsBlockWord program words t w) → (IsTrue r ↔ IsOldBlockWord program words t w)
+  other_word w ne test = (λ yes. record { origin = λ at. absurd (ne at); others = λ _. test.0 yes }, λ right. test.1 (right.others ne))
+
+  -- and so is the origin where no chain of a source's event runs
+  pub other_chain : {r : Bool} (w : ℕ) → IsAccepted program → w ≡ header.origin → ¬ HasSourceChain words t → (IsTrue r ↔ IsBlockWord program words t w) →
+      (IsTrue r ↔ IsOldBlockWord program words t w)
+  other_chain {r} w accepted at none test =
+      let here : (IsTrue r ↔ IsBlockWord program words t header.origin) = subst (λ n. IsTrue r ↔ IsBlockWord program words t n) at test in
+      subst (λ n. IsTrue r ↔ IsOldBlockWord program words t n) (sym at) (
+        λ yes. record {
+          origin = λ is runs. let found = (here.0 yes).origin refl runs in old_origin program words t accepted none found.0 runs found.1 found.2;
+          others = λ ne. absurd (ne refl);
+        },
+        λ right. here.1 (block_at_origin (λ runs. let found = right.origin refl runs in today_origin program words t accepted none found.0 runs found.1 found.2)),
+      )
+
+  -- where one runs, by the test of its word
+  pub source_chain : {r : Bool} (word : ℕ) → IsAccepted program → HasSourceChain words t → word ≡ committed words t header.origin → (IsTrue r ↔ IsSourceWord program t word) →
+      (IsTrue r ↔ IsOldBlockWord program words t header.origin)
+  source_chain {r} word accepted chain is test =
+      let here : (IsTrue r ↔ IsSourceWord program t (committed words t header.origin)) = subst (λ n. IsTrue r ↔ IsSourceWord program t n) is test in
+      (λ yes. source_right program words t accepted chain (here.0 yes), λ right. here.1 (right_source program words t accepted chain right))

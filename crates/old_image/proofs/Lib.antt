@@ -13,3 +13,4 @@ pub mod Unworn
 pub mod Puts
 pub mod QueueSlots
 pub mod NewWords
+pub mod Faults

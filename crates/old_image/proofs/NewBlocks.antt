@@ -3,6 +3,7 @@ use Rattle.old_image.proofs.Common.{◌≡◌, ◌≢◌, inl, inr, ℕ, ◌+◌
 use Rattle.ink_base.specs.declared.event.Origin.TheVariants as origins
 use Rattle.fram_words.specs.Header as header
 use Rattle.never_cut.specs.Ranges.{IsTaskOf}
+use Rattle.old_image.proofs.Checks.{block_at_origin}
 use Rattle.old_image.proofs.OldQueues.{IsOldReadAt, held_read}
 
 -- the number of a word by its place on a page
@@ -117,9 +118,9 @@ module _ (program : Program) (old new : Memory) (renewed : IsRenewed program old
           by_source ((o : Origin) × (committed new t header.origin ≡ origin_word o) × IsChainOrigin program new t o) before
           (λ chain. (origins.Source first_event.source 0, origin_new chain, source_own chain))
           (λ isnt.
-            let none : ¬ HasSourceChain old t = none_of_source isnt in
-            let found = (checked header.origin (omega arith)).origin refl before in
-            (found.0, origin_same t none ∙ found.1, other_origin found.0 none before found.1 found.2))
+          let none : ¬ HasSourceChain old t = none_of_source isnt in
+          let found = (checked header.origin (omega arith)).origin refl before in
+          (found.0, origin_same t none ∙ found.1, other_origin found.0 none before found.1 found.2))
 
       value_right : HasChain new t → IsChainValue (origin_of (committed new t header.origin)) (committed new t header.value)
       value_right runs =
@@ -127,12 +128,12 @@ module _ (program : Program) (old new : Memory) (renewed : IsRenewed program old
           let same : committed new t header.value ≡ committed old t header.value = committed_same t header.value (omega arith) in
           by_source (IsChainValue (origin_of (committed new t header.origin)) (committed new t header.value)) before
           (λ chain.
-            let is : committed new t header.value ≡ first_event.value = same ∙ ((image.queues t known).served chain).value in
-            subst (λ o. IsChainValue o (committed new t header.value)) (sym (origin_back chain))
-              (let fits = (first_read chain).fits.value_fits in omega (arith, is)))
+          let is : committed new t header.value ≡ first_event.value = same ∙ ((image.queues t known).served chain).value in
+          subst (λ o. IsChainValue o (committed new t header.value)) (sym (origin_back chain))
+          (let fits = (first_read chain).fits.value_fits in omega (arith, is)))
           (λ isnt.
-            subst (λ (z : ℕ × ℕ). IsChainValue (origin_of z.0) z.1) (λ k. (sym (origin_same t (none_of_source isnt)) k, sym same k))
-              (((checked header.value (omega arith)).others (omega arith)).value refl before))
+          subst (λ (z : ℕ × ℕ). IsChainValue (origin_of z.0) z.1) (λ k. (sym (origin_same t (none_of_source isnt)) k, sym same k))
+          (((checked header.value (omega arith)).others (omega arith)).value refl before))
 
       -- a word beside the origin is right as it was
       other_right : (w : ℕ) → w ≢ header.origin → IsBlockWord program old t w → IsBlockWord program new t w
@@ -153,29 +154,10 @@ module _ (program : Program) (old new : Memory) (renewed : IsRenewed program old
         rest = λ from. committed_same t w ne ∙ h.rest from;
       }
 
-      -- at the origin nothing else is asked
-      at_origin : IsBlockWord program new t header.origin
-      at_origin = record {
-        next = λ at. absurd (omega arith);
-        first = λ at. absurd (omega arith);
-        origin = λ at runs. origin_right runs;
-        value = λ at. absurd (omega arith);
-        outputs = λ at. absurd (omega arith);
-        written = λ q lt at. absurd (omega arith);
-        taken = λ q lt at. absurd (omega arith);
-        due = λ j lt at. absurd (omega arith);
-        period = λ j lt at. absurd (omega arith);
-        foreign_due = λ j lt at. absurd (omega arith);
-        foreign_period = λ j lt at. absurd (omega arith);
-        unused = λ from. absurd (omega arith);
-        state = λ from. absurd (omega arith);
-        rest = λ from. absurd (omega arith);
-      }
-
       pub block_right : (w : ℕ) → w < 8 * pages_of (thread_def program t) → IsBlockWord program new t w
       block_right w lt =
           elim (cases_Bool (w == header.origin)) [
-            | inl is ↦ subst (IsBlockWord program new t) (sym (eqb-true _ _ is)) at_origin
+            | inl is ↦ subst (IsBlockWord program new t) (sym (eqb-true _ _ is)) (block_at_origin program new t origin_right)
             | inr isnt ↦
                 let ne : w ≢ header.origin = λ e. absurd (let clash : false ≡ true = sym isnt ∙ eq-eqb _ _ e in cc) in
                 other_right w ne ((image.blocks t w known lt).others ne)

@@ -18,7 +18,7 @@ other_served held word value isnt = by_flag (word / 2 ^ 56 == 1) (word / 2 ^ 56 
   where
     by_flag : (a b : Bool) → a ≡ false →
         IsServedFirst held (if a then origins.Source (record { 0 = word / 2 ^ 16 % 2 ^ 8 }) (word % 2 ^ 8)
-          else (if b then origins.Pipe (record { 0 = word / 2 ^ 32 % 2 ^ 8 }) (word % 2 ^ 32) else origins.Timer (record { 0 = word / 2 ^ 48 % 2 ^ 8 }) (word % 2 ^ 48))) value
+        else (if b then origins.Pipe (record { 0 = word / 2 ^ 32 % 2 ^ 8 }) (word % 2 ^ 32) else origins.Timer (record { 0 = word / 2 ^ 48 % 2 ^ 8 }) (word % 2 ^ 48))) value
     by_flag true b is = absurd (let clash : true ≡ false = is in cc)
     by_flag false true is = tt
     by_flag false false is = tt
@@ -43,15 +43,15 @@ module _ (program : Program) (words : Memory) (t : ℕ) where
   events_are (suc most) p zero event few shown behind =
       let at : p + 0 ≡ p = omega arith in
       let none : event_in program t p (slot_of program words t p) ≡ None =
-          subst (λ n. event_in program t n (slot_of program words t n) ≡ None) at (behind (omega arith)) in
+      subst (λ n. event_in program t n (slot_of program words t n) ≡ None) at (behind (omega arith)) in
       record { count_is = ap (λ o. length (followed p most o)) none; events = λ k lt. absurd (omega arith) }
   events_are (suc most) p (suc count) event few shown behind =
       let at : p + 0 ≡ p = omega arith in
       let here : event_in program t p (slot_of program words t p) ≡ Some (event 0) =
-          subst (λ n. event_in program t n (slot_of program words t n) ≡ Some (event 0)) at (shown 0 (omega arith)) in
+      subst (λ n. event_in program t n (slot_of program words t n) ≡ Some (event 0)) at (shown 0 (omega arith)) in
       let rest = events_are most (p + 1) count (λ k. event (suc k)) (omega arith)
-          (λ k lt. subst (λ n. event_in program t n (slot_of program words t n) ≡ Some (event (suc k))) (let s : p + suc k ≡ p + 1 + k = omega arith in s) (shown (suc k) (omega arith)))
-          (λ lt. subst (λ n. event_in program t n (slot_of program words t n) ≡ None) (let s : p + suc count ≡ p + 1 + count = omega arith in s) (behind (omega arith))) in
+      (λ k lt. subst (λ n. event_in program t n (slot_of program words t n) ≡ Some (event (suc k))) (let s : p + suc k ≡ p + 1 + k = omega arith in s) (shown (suc k) (omega arith)))
+      (λ lt. subst (λ n. event_in program t n (slot_of program words t n) ≡ None) (let s : p + suc count ≡ p + 1 + count = omega arith in s) (behind (omega arith))) in
       record {
         count_is = ap (λ o. length (followed p most o)) here ∙ (let n = rest.count_is in omega arith);
         events = λ k lt. ap (λ o. event_at (followed p most o) k) here ∙ each rest.events k lt;
@@ -91,8 +91,8 @@ module _ (program : Program) (old new : Memory) (renewed : IsRenewed program old
         let read = held_read program old t k lt in
         ap slot_in (renewed.held t k known lt)
         ∙ slot_in-full (first + k) (old_event_at held k).source (count_at k) (old_event_at held k).value
-          (record { position_fits = read.fits.position_fits; source_fits = read.fits.source_fits; count_fits = omega (arith, count_few k lt) })
-          (let small = read.fits.value_fits in omega arith)
+        (record { position_fits = read.fits.position_fits; source_fits = read.fits.source_fits; count_fits = omega (arith, count_few k lt) })
+        (let small = read.fits.value_fits in omega arith)
 
     slot_free : (k : ℕ) → length held ≤ k → k < (thread_def program t).queue → slot_of program new t (first + k) ≡ Some (slots.Empty (first + k))
     slot_free k behind lt =
@@ -103,7 +103,7 @@ module _ (program : Program) (old new : Memory) (renewed : IsRenewed program old
         let read = held_read program old t k lt in
         let i : ℕ = (old_event_at held k).source.0 in
         let test : ((first + k == first + k) && (nat_lt i (length program.sources) && (source_thread program i == t))) ≡ true =
-            and_from (first + k == first + k) _ (eq-eqb _ _ refl) (and_from (nat_lt i (length program.sources)) _ (lt-ltb _ _ read.known) (eq-eqb _ _ read.own)) in
+        and_from (first + k == first + k) _ (eq-eqb _ _ refl) (and_from (nat_lt i (length program.sources)) _ (lt-ltb _ _ read.known) (eq-eqb _ _ read.own)) in
         ap (event_in program t (first + k)) (slot_full k lt) ∙ ap (λ (b : Bool). if b then Some (new_event k) else None) test
 
     events_told : AreTold program new t first (thread_def program t).queue (length held) new_event
@@ -142,19 +142,19 @@ module _ (program : Program) (old new : Memory) (renewed : IsRenewed program old
         let counted : first ≡ f - 1 = ap (λ (b : Bool). f - flag b) is in
         let same : first + 0 ≡ f - 1 = omega (arith, counted) in
         let full : is_full_of (f - 1) (slot_of program new t (f - 1)) ≡ true =
-            subst (λ n. is_full_of n (slot_of program new t n) ≡ true) same (ap (is_full_of (first + 0)) (slot_full 0 there) ∙ eq-eqb _ _ refl) in
+        subst (λ n. is_full_of n (slot_of program new t n) ≡ true) same (ap (is_full_of (first + 0)) (slot_full 0 there) ∙ eq-eqb _ _ refl) in
         and_from (nat_lt 0 f) _ both.0 full
     finished_shown false is =
         let f : ℕ = committed old t header.finished in
         let counted : first ≡ f - 0 = ap (λ (b : Bool). f - flag b) is in
         both_false (nat_lt 0 f) (is_full_of (f - 1) (slot_of program new t (f - 1))) (λ positive.
-          let some : 0 < f = ltb-true _ _ positive in
-          let n : ℕ = (thread_def program t).queue in
-          let turn : (f - 1 + n) % n ≡ (f - 1) % n = add-mod_right (f - 1) n in
-          let last : f - 1 + n ≡ first + (n - 1) = omega (arith, counted, places_some) in
-          let here : slot_of program new t (f - 1 + n) ≡ slot_of program new t (f - 1) = ap (λ z. slot_in (new (Slot t z))) turn in
-          ap (is_full_of (f - 1)) (sym here)
-          ∙ other_shown (f - 1) (f - 1 + n) (slot_of program new t (f - 1 + n)) (λ e. omega (arith, places_some)) (last_shown (n - 1) (omega (arith, places_some)) (f - 1 + n) last))
+        let some : 0 < f = ltb-true _ _ positive in
+        let n : ℕ = (thread_def program t).queue in
+        let turn : (f - 1 + n) % n ≡ (f - 1) % n = add-mod_right (f - 1) n in
+        let last : f - 1 + n ≡ first + (n - 1) = omega (arith, counted, places_some) in
+        let here : slot_of program new t (f - 1 + n) ≡ slot_of program new t (f - 1) = ap (λ z. slot_in (new (Slot t z))) turn in
+        ap (is_full_of (f - 1)) (sym here)
+        ∙ other_shown (f - 1) (f - 1 + n) (slot_of program new t (f - 1 + n)) (λ e. omega (arith, places_some)) (last_shown (n - 1) (omega (arith, places_some)) (f - 1 + n) last))
 
     pub finished_same : told_finished program new t ≡ old_finished program old t
     finished_same = ap shows_finished ended_same ∙ finished_shown (old_finished program old t) refl
@@ -186,17 +186,17 @@ module _ (program : Program) (old new : Memory) (renewed : IsRenewed program old
         let value : ℕ = committed new t header.value in
         by_source program old new renewed accepted image t known (IsServedFirst (told_held program new t) (origin_of word) value) before
         (λ chain.
-          let served = (image.queues t known).served chain in
-          let back = origin_back program old new renewed accepted image t known chain in
-          let same : value ≡ (old_event_at (old_held program old t) 0).value = committed_same program old new renewed t header.value (omega arith) ∙ served.value in
-          subst (λ o. IsServedFirst (told_held program new t) o value) (sym back) (
-            let there = served.held in omega (arith, held_count t known),
-            held_event t known 0 served.held ∙ ap (λ v. record { origin = origins.Source (old_event_at (old_held program old t) 0).source 0; value = v }) (sym same),
-          ))
+        let served = (image.queues t known).served chain in
+        let back = origin_back program old new renewed accepted image t known chain in
+        let same : value ≡ (old_event_at (old_held program old t) 0).value = committed_same program old new renewed t header.value (omega arith) ∙ served.value in
+        subst (λ o. IsServedFirst (told_held program new t) o value) (sym back) (
+          let there = served.held in omega (arith, held_count t known),
+          held_event t known 0 served.held ∙ ap (λ v. record { origin = origins.Source (old_event_at (old_held program old t) 0).source 0; value = v }) (sym same),
+        ))
         (λ isnt.
-          subst (λ n. IsServedFirst (told_held program new t) (origin_of n) value)
-            (sym (origin_same program old new renewed t (none_of_source program old new renewed accepted image t known isnt)))
-            (other_served (told_held program new t) (committed old t header.origin) value isnt))
+        subst (λ n. IsServedFirst (told_held program new t) (origin_of n) value)
+        (sym (origin_same program old new renewed t (none_of_source program old new renewed accepted image t known isnt)))
+        (other_served (told_held program new t) (committed old t header.origin) value isnt))
 
     pub queue_right : IsQueueRight program new t
     queue_right =

@@ -44,9 +44,9 @@ module _ (program : Program) (old new : Memory) (renewed : IsRenewed program old
   other_number k lt =
       let there : k < length held = omega (arith, like.count) in
       both_false (event_source (event_at told k) == i) (event_count (event_at told k) == (src_of (new (Src i))).accepted % 64) (λ is.
-        let own : event_source (event_at told k) ≡ i = eqb-true _ _ is in
-        let less = own_before i k held there (sym (like.sources k there) ∙ own) in
-        ne_eqb _ _ (λ e. let count = count_is k there own in omega (arith, accepted_in, few)))
+      let own : event_source (event_at told k) ≡ i = eqb-true _ _ is in
+      let less = own_before i k held there (sym (like.sources k there) ∙ own) in
+      ne_eqb _ _ (λ e. let count = count_is k there own in omega (arith, accepted_in, few)))
 
   -- no event is held beside those that SRC counts
   none_more : is_one_more program new i ≡ false

@@ -44,7 +44,7 @@ module _ (program : Program) (words : Memory) (t : ℕ) where
 
   first_told : (p most : ℕ) →
       ((k : ℕ) → k < length (old_events_from program words t (p + 1) most) →
-        old_event_in program t (p + 1 + k) (old_slot_of program words t (p + 1 + k)) ≡ Some (old_event_at (old_events_from program words t (p + 1) most) k)) →
+      old_event_in program t (p + 1 + k) (old_slot_of program words t (p + 1 + k)) ≡ Some (old_event_at (old_events_from program words t (p + 1) most) k)) →
       (o : Option OldEvent) → old_event_in program t p (old_slot_of program words t p) ≡ o → (k : ℕ) → k < length (old_followed p most o) →
       old_event_in program t (p + k) (old_slot_of program words t (p + k)) ≡ Some (old_event_at (old_followed p most o) k)
   first_told p most rest None is k lt = absurd (omega arith)
@@ -90,7 +90,7 @@ module _ (program : Program) (words : Memory) (t : ℕ) where
             let same : old_released program words t + 0 ≡ last = omega (arith, counted) in
             let fits : last < 2 ^ 21 = subst (λ n. n < 2 ^ 21) same ((right.slots 0 some).fits none) in
             let read : old_slot_of program words t last ≡ Some (Empty last) =
-                subst (λ n. old_slot_of program words t n ≡ Some (Empty n)) same
-                (ap old_slot_in ((right.slots 0 some).empty none) ∙ old_slot_in-word_of (Empty (old_released program words t + 0)) ((right.slots 0 some).fits none)) in
+            subst (λ n. old_slot_of program words t n ≡ Some (Empty n)) same
+            (ap old_slot_in ((right.slots 0 some).empty none) ∙ old_slot_in-word_of (Empty (old_released program words t + 0)) ((right.slots 0 some).fits none)) in
             absurd (let clash : false ≡ true = sym (ap (is_old_full_of last) read) ∙ both.1 in cc)
       ]

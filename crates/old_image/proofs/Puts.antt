@@ -19,7 +19,7 @@ stored program layout words p v is on count =
     let at : layout_address layout p ≡ address (shape_of program) p = is.addresses p on in
     let lt = below program p on in
     let becomes : memory_of (shape_of program) (set words (layout_address layout p) v) ≡ store (memory_of (shape_of program) words) p v =
-        ap (λ a. memory_of (shape_of program) (set words a v)) at ∙ store_word (shape_of program) words p v (valid program p on) (omega (arith, count, lt)) in
+    ap (λ a. memory_of (shape_of program) (set words a v)) at ∙ store_word (shape_of program) words p v (valid program p on) (omega (arith, count, lt)) in
     record {
       here = ap (λ (m : Memory). m p) becomes ∙ store-same (memory_of (shape_of program) words) p v;
       elsewhere = λ q ne. ap (λ (m : Memory). m q) becomes ∙ store-other (memory_of (shape_of program) words) p q v (λ e. ne (sym e));

@@ -97,9 +97,9 @@ module _ (program : Program) (old before : Memory) where
   behind_apart t j k less lt =
       other_slot t ((old_released program old t + j) % (thread_def program t).queue) t ((old_released program old t + k) % (thread_def program t).queue)
       (λ e.
-        let same = same_position (thread_def program t).queue (old_released program old t) (old_released program old t + j) (old_released program old t + k)
-            (omega arith) (omega arith) (omega arith) (omega arith) e in
-        omega arith)
+      let same = same_position (thread_def program t).queue (old_released program old t) (old_released program old t + j) (old_released program old t + k)
+      (omega arith) (omega arith) (omega arith) (omega arith) e in
+      omega arith)
 
   -- one more slot
   pub slots_more : (t k word : ℕ) (after next : Memory) → SlotsRenewed program old before after t k → k < (thread_def program t).queue →
@@ -175,8 +175,8 @@ module _ (program : Program) (old first second new : Memory) (sources : SourcesR
   kept (Src i) stays = absurd stays
   kept (Page t p b k) stays =
       kept_other (Page t p b k) tt (λ u lt chain e.
-        let same : u ≡ t = sym (ap thread_at e) in
-        stays (subst (HasSourceChain old) same chain) (subst (λ n. Page t p b k ≡ origin_place old n) same e)) tt
+      let same : u ≡ t = sym (ap thread_at e) in
+      stays (subst (HasSourceChain old) same chain) (subst (λ n. Page t p b k ≡ origin_place old n) same e)) tt
   kept (Code x n) stays = kept_other (Code x n) tt (λ u lt chain e. absurd (cc)) tt
   kept (Commit t) stays = kept_other (Commit t) tt (λ u lt chain e. absurd (cc)) tt
   kept (Log t n) stays = kept_other (Log t n) tt (λ u lt chain e. absurd (cc)) tt

@@ -64,8 +64,8 @@ module _ (program : Program) (listed : List ℕ) (words : Memory) (t : ℕ) (kno
   queue_worn {r} stamp served trapped expired test =
       subst (λ b. MatchBool b (IsOldWorn program listed words) (IsUnwornThread program listed words t)) (sym test)
       (by_size (suc greatest_tail) (old_published program words t + listed_into program listed t (length program.sources))
-        (λ many. worn.ManyPositions t known (omega arith))
-        (λ few. record { stamp = stamp; served = served; trapped = trapped; expired = expired; positions = omega arith }))
+      (λ many. worn.ManyPositions t known (omega arith))
+      (λ few. record { stamp = stamp; served = served; trapped = trapped; expired = expired; positions = omega arith }))
 
 -- where it isn't worn, a source has settled as many readings as it can have at most
 pub few_settled : (program : Program) (words : Memory) (i : ℕ) → IsFresh program words → i < length program.sources → old_next program words i ≤ limits.READINGS

@@ -56,7 +56,7 @@ pub data IsOldQueueFault (program : Program) (words : Memory) (t : ℕ) : Place 
 pub data IsOldSourceFault (program : Program) (words : Memory) (i : ℕ) : Place → Type 0 where
   ReadingFails : (j : ℕ) → IsFirstFault (IsRisingReading program words i) (length (old_held_for program words i)) j →
       IsOldSourceFault program words i
-        (Slot (source_thread program i) ((old_released program words (source_thread program i) + j) % (thread_def program (source_thread program i)).queue))
+      (Slot (source_thread program i) ((old_released program words (source_thread program i) + j) % (thread_def program (source_thread program i)).queue))
   AckFails : AreRising program words i → ¬ IsOldAckWord program words i → IsOldSourceFault program words i (Ack i)
 
 -- the first place at which check 3 fails

@@ -42,12 +42,7 @@ pub(crate) fn old_published(plan: &Plan, words: &[u64], thread: ThreadId) -> u12
 }
 
 /// The event that stands at a place among them, counted from 0.
-pub(crate) fn old_held_event(
-    plan: &Plan,
-    words: &[u64],
-    thread: ThreadId,
-    place: u32,
-) -> OldEvent
+pub(crate) fn old_held_event(plan: &Plan, words: &[u64], thread: ThreadId, place: u32) -> OldEvent
     requires count { length words.now ≡ words_of (shape_of plan.now.accepted) }
     requires known { thread.0 < length plan.now.accepted.threads }
     requires held { place < length (told.old_held plan.now.accepted (board plan.now.accepted words.now) thread.0) }

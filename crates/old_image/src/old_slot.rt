@@ -9,7 +9,9 @@ use ink_base::SourceId;
 #[derive(Clone, Copy, Debug, PartialEq, Eq)]
 pub enum OldSlot {
     /// The slot is free for the event of this position.
-    Empty { position: u32 },
+    Empty {
+        position: u32,
+    },
     /// The slot holds the event of this position: its source, the number of its reading from 0, and its value.
     Full {
         position: u32,

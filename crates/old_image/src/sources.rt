@@ -13,8 +13,8 @@ ghost use Rattle.old_image.specs.Renewed.{place_behind};
 ghost use Rattle.old_image.specs.kept.Parts.{ComesAfter, FindsOwn, IsAckBefore};
 
 use crate::held::{after_first, count_for, event_for, is_of};
-use crate::queue::{is_old_finished, old_released};
 use crate::old_event::OldEvent;
+use crate::queue::{is_old_finished, old_released};
 use fram_words::Place;
 use image_told::{fed, slot_place, word_at};
 use ink_base::SourceId;

@@ -1,10 +1,8 @@
 -- The check of logs, in two parts: what a log word asks of its own log, and that its stamp stands in no earlier one.
-use Rattle.std.specs.Prelude.{◌≡◌, ◌≢◌, ◌+◌, ◌<◌, ◌≤◌, ℕ, length}
-use Rattle.task_isa.specs.declared.program.Program.{Program}
+use Rattle.std.specs.Prelude.{◌≡◌, ◌≢◌, ◌+◌, ◌<◌, ◌≤◌, ℕ}
 use Rattle.fram_words.specs.Places.{Memory}
 use Rattle.fram_words.specs.Header as header
 use Rattle.thread_state.specs.Pages.{committed}
-use Rattle.prog_check.specs.Lookup.{thread_def}
 use Rattle.never_cut.specs.Image.{stamp_at}
 use Rattle.image_checks.specs.Failing.{HoldsBelow}
 pub use Rattle.image_checks.specs.Failing.{OutputsFit}

@@ -4,12 +4,12 @@ use Rattle.task_isa.specs.declared.program.Program.{Program}
 use Rattle.fram_words.specs.Places.{Memory, Slot, Ack}
 use Rattle.prog_check.specs.Lookup.{thread_def, source_thread}
 use Rattle.never_cut.specs.Stands.{flag}
-use Rattle.image_checks.specs.Failing.{IsFirstFault}
+use Rattle.image_checks.specs.Failing.{IsFirstFault, CodeHolds, CommitWordsHold, PipesHold, LogsHold}
 use Rattle.old_image.specs.declared.old_event.OldEvent.{OldEvent}
 use Rattle.old_image.specs.Slots.{old_empty_word}
 use Rattle.old_image.specs.Told.{old_finished, old_released, old_held_for, old_event_at, old_origin_word}
 use Rattle.old_image.specs.Image.{IsOldSlotWord, is_old_finished_at}
-use Rattle.old_image.specs.Failing.{AreOldSlots}
+use Rattle.old_image.specs.Failing.{AreOldSlots, OldBlocksHold}
 
 -- the slot of a position has the empty word of the position, which fits its bits
 pub record IsFree (program : Program) (words : Memory) (t position : ℕ) : Type 0 where
@@ -58,3 +58,11 @@ FindsOwn i held (Some place) = IsFirstOwn i held place
 abbrev pub IsAckBefore : Program → Memory → (i place : ℕ) → Type 0
 IsAckBefore program words i place =
     words (Ack i) ≤ (old_event_at (old_held_for program words i) place).reading + flag (is_old_finished_at program words (source_thread program i) place)
+
+-- the checks on code, commit words, blocks, pipes and logs hold
+pub record PrivateHolds (program : Program) (words : Memory) : Type 0 where
+  pub code : CodeHolds program words
+  pub commit_words : CommitWordsHold program words
+  pub blocks : OldBlocksHold program words
+  pub pipes : PipesHold program words
+  pub logs : LogsHold program words

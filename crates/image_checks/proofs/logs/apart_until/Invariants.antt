@@ -1,6 +1,4 @@
 use Rattle.std.proofs.Common.{◌≤◌}
-use Rattle.fram_words.specs.Header as header
-use Rattle.thread_state.specs.Pages.{committed}
 use Rattle.image_checks.specs.Board.{board}
 use Rattle.image_checks.specs.Failing.{HoldsBelow}
 use Rattle.image_checks.specs.kept.Logs.{AreLower, IsApart}

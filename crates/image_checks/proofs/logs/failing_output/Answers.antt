@@ -1,7 +1,5 @@
-use Rattle.std.proofs.Common.{arith}
-use Rattle.fram_words.specs.Places.{Memory}
 use Rattle.image_checks.specs.Board.{board}
-use Rattle.image_checks.proofs.LogWords.{right_before, rising, wrong_at}
+use Rattle.image_checks.proofs.LogWords.{rising}
 use Rattle.image_checks.proofs.logs.failing_output.Goals as goal
 
 pub apart_from_earlier-end-requires-clause-rising : goal.apart_from_earlier-end-requires-clause-rising

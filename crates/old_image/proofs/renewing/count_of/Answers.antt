@@ -8,7 +8,7 @@ own_before-requires-clause-held c =
     let words : Memory = board c.args.plan.now.accepted c.args.words.now in
     let held = c.requires.held in
     let same : length (old_held_for c.args.plan.now.accepted words c.args.source.0) ≡ length (old_held c.args.plan.now.accepted words c.args.thread.0) =
-        ap (λ t. length (old_held c.args.plan.now.accepted words t)) c.requires.own in
+    ap (λ t. length (old_held c.args.plan.now.accepted words t)) c.requires.own in
     omega arith
 
 pub overflow_cast-result : goal.overflow_cast-result

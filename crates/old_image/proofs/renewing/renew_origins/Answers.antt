@@ -16,11 +16,11 @@ loop-t-preserved c =
         | then-has_source_chain w ↦
             subst (λ (n : List ℕ). OriginsRenewed old before (board c.args.plan.now.accepted n) (c.loop-t.t + 1)) (sym w.new-is)
             (origins_more old before c.loop-t.t (without_reading (committed old c.loop-t.t header.origin)) after (board c.args.plan.now.accepted w.renew_origin.new.new)
-              c.loop-t.invariant.renewed refl (c.has_source_chain.ensures.0 w.if-has_source_chain.true) w.renew_origin.ensures)
+            c.loop-t.invariant.renewed refl (c.has_source_chain.ensures.0 w.if-has_source_chain.true) w.renew_origin.ensures)
         | else-has_source_chain w ↦
             subst (λ (n : List ℕ). OriginsRenewed old before (board c.args.plan.now.accepted n) (c.loop-t.t + 1)) (sym w.new-is)
             (origins_over old before c.loop-t.t after c.loop-t.invariant.renewed
-              (λ chain. absurd (let clash : false ≡ true = sym w.if-has_source_chain.false ∙ c.has_source_chain.ensures.1 chain in cc)))
+            (λ chain. absurd (let clash : false ≡ true = sym w.if-has_source_chain.false ∙ c.has_source_chain.ensures.1 chain in cc)))
       ];
       size = c.if-has_source_chain.auto.new ∙ c.loop-t.invariant.size;
     }

@@ -13,7 +13,7 @@ loop-k-preserved c =
     let after : Memory = board c.args.plan.now.accepted c.loop-k.new in
     let next : Memory = board c.args.plan.now.accepted c.put.new.new in
     let at : place_of c.slot_place.result ≡ place_behind c.args.plan.now.accepted old c.args.thread.0 c.loop-k.k =
-        c.slot_place.ensures.place ∙ ap (slot_place c.args.plan.now.accepted c.args.thread.0) c.position_behind-position.ensures.position in
+    c.slot_place.ensures.place ∙ ap (slot_place c.args.plan.now.accepted c.args.thread.0) c.position_behind-position.ensures.position in
     let places = c.places-k-end.ensures.places in
     record {
       renewed =

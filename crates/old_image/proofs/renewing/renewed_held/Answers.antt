@@ -31,7 +31,7 @@ pub returns : goal.returns
 returns c =
     let words : Memory = board c.args.plan.now.accepted c.args.words.now in
     let count : c.count_of-count.result ≡ own_old c.old_held_event-event.result.source.0 (take c.args.place (old_held c.args.plan.now.accepted words c.args.thread.0)) =
-        c.count_of-count.ensures.own in
+    c.count_of-count.ensures.own in
     c.full.ensures
     ∙ made c.position_behind-position.result (old_released c.args.plan.now.accepted words c.args.thread.0 + c.args.place) c.count_of-count.result c.args.place
-      c.old_held_event-event.result (old_held c.args.plan.now.accepted words c.args.thread.0) c.position_behind-position.ensures.position c.old_held_event-event.ensures count
+    c.old_held_event-event.result (old_held c.args.plan.now.accepted words c.args.thread.0) c.position_behind-position.ensures.position c.old_held_event-event.ensures count
