@@ -1,2 +1,6 @@
 pub mod Text
 pub mod Reading
+pub mod Form
+pub mod Image
+pub mod Whole
+pub mod Plain

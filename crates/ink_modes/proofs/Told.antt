@@ -4,7 +4,8 @@ use Rattle.std.specs.Io.KnownBytes.{Consumes, IsAtEnd}
 use Rattle.ink_base.specs.declared.fault.JobFault.{JobFault}
 use Rattle.ink_base.specs.declared.status.Status.{Status}
 use Rattle.ink_base.specs.declared.status.Status.TheVariants.{Done, Usage, Refused, ReadFault, WriteFault, NoMemory, TooLong}
-use Rattle.power_trace.specs.Parse.{job_at}
+use Rattle.ink_image.specs.Whole.{IsJobOf}
+use Rattle.ink_image.proofs.Once.{one_answer}
 use Rattle.ink_io.specs.Counts.{Rose}
 use Rattle.ink_io.specs.States.{SourceState, SinkState}
 use Rattle.ink_modes.specs.declared.finish.Record.{Record}
@@ -52,10 +53,6 @@ to_end (Some xs) (Some ys) bytes text took end is =
     let inner : xs ≡ text = cc in
     sym (append-nil bytes) ∙ (ap (λ (l : List ℕ). bytes ++ l) (sym end) ∙ (sym took ∙ inner))
 
--- a text isn't a job and refused
-no_fault : (text : List ℕ) (job : JobParts) (fault : JobFault) → job_at text ≡ Ok job → job_at text ≡ Err fault → ⊥
-no_fault text job fault is refused = let clash : Ok job ≡ Err fault = sym is ∙ refused in absurd cc
-
 -- a command that has what it needs stops only where memory is wanted
 wants_memory : (seed : Option ℕ) (before now : SourceState) (status : Status) → Stops seed before now status → Needs seed before → ¬ Rose before.faults now.faults →
     status ≡ NoMemory
@@ -63,8 +60,8 @@ wants_memory (Some number) before now status stops needs clean = stops.0
 wants_memory None before now NoMemory stops needs clean = refl
 wants_memory None before now ReadFault stops needs clean = absurd (clean stops.0)
 wants_memory None before now TooLong stops needs clean = absurd (no_more before.left now.left stops.1.0 needs.0 stops.1.1.taken needs.1 needs.2 stops.1.2)
-wants_memory None before now (Refused fault) stops needs clean = absurd (no_fault needs.0 needs.3.0 fault needs.3.1
-    (subst (λ (text : List ℕ). job_at text ≡ Err fault) (to_end before.left now.left stops.0 needs.0 stops.1.bytes stops.1.end needs.1) stops.2))
+wants_memory None before now (Refused fault) stops needs clean = absurd (one_answer needs.0 needs.3.0 fault needs.3.1
+    (subst (λ (text : List ℕ). IsJobOf text (Err fault)) (to_end before.left now.left stops.0 needs.0 stops.1.bytes stops.1.end needs.1) stops.2))
 wants_memory None before now Done stops needs clean = absurd stops
 wants_memory None before now Usage stops needs clean = absurd stops
 wants_memory None before now WriteFault stops needs clean = absurd stops

@@ -9,7 +9,7 @@ use Rattle.ink_io.specs.Counts.{Rose}
 use Rattle.ink_io.specs.States.{SourceState, SinkState}
 use Rattle.ink_io.specs.Whole.{GaveText, StopsRead, WroteText, WrotePart}
 use Rattle.job_parts.specs.Job.{JobParts}
-use Rattle.power_trace.specs.Parse.{job_at}
+use Rattle.ink_image.specs.Whole.{IsJobOf}
 use Rattle.ink_modes.specs.declared.command.Command.{Command}
 use Rattle.ink_modes.specs.declared.finish.Record.{Record}
 use Rattle.ink_modes.specs.modes.{form_of}
@@ -18,7 +18,7 @@ use Rattle.ink_modes.specs.Made.{OfText, Makes}
 
 -- why a text gave no job: this is its first fault, or memory is refused
 abbrev pub StopsText : List ℕ → Status → Type 0
-StopsText text (Refused fault) = job_at text ≡ Err fault
+StopsText text (Refused fault) = IsJobOf text (Err fault)
 StopsText text NoMemory = Unit {0}
 StopsText text _ = ⊥
 
@@ -26,7 +26,7 @@ StopsText text _ = ⊥
 abbrev pub StopsReading : SourceState → SourceState → Status → Type 0
 StopsReading before now ReadFault = StopsRead before now reading.ReadFault
 StopsReading before now TooLong = StopsRead before now reading.TooLong
-StopsReading before now (Refused fault) = OfText before now (λ text. job_at text ≡ Err fault)
+StopsReading before now (Refused fault) = OfText before now (λ text. IsJobOf text (Err fault))
 StopsReading before now NoMemory = StopsRead before now reading.NoMemory ⊎ ((text : List ℕ) × GaveText before now text)
 StopsReading before now _ = ⊥
 
@@ -58,7 +58,7 @@ pub record Tells (words : List Word) (before now : SourceState) (sink sink_now :
 
 -- the source has the text of a job, and tells it
 abbrev pub HasJob : SourceState → Type 0
-HasJob source = (text : List ℕ) × (source.left ≡ Some text) × (length text ≤ limits.TEXT_BYTES) × ((job : JobParts) × (job_at text ≡ Ok job))
+HasJob source = (text : List ℕ) × (source.left ≡ Some text) × (length text ≤ limits.TEXT_BYTES) × ((job : JobParts) × IsJobOf text (Ok job))
 
 -- what a command needs of its source: nothing, where it has a seed
 abbrev pub Needs : Option ℕ → SourceState → Type 0

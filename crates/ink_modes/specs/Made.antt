@@ -1,8 +1,8 @@
 -- Of which job a command makes what it makes.
 use Rattle.std.specs.Prelude.{◌≡◌, ℕ, List, Option, Some, None, Ok}
 use Rattle.job_parts.specs.Job.{JobParts}
-use Rattle.power_trace.specs.Parse.{job_at}
 use Rattle.power_trace.specs.Soak.{soak_of}
+use Rattle.ink_image.specs.Whole.{IsJobOf}
 use Rattle.ink_io.specs.States.{SourceState}
 use Rattle.ink_io.specs.Whole.{GaveText}
 use Rattle.ink_modes.specs.declared.command.Command.{Command}
@@ -16,7 +16,7 @@ OfText before now P = (text : List ℕ) × GaveText before now text × P text
 -- the job that is generated from a seed, and nothing is read; with no seed, that of the source's text
 abbrev pub GaveJob : Option ℕ → SourceState → SourceState → JobParts → Type 0
 GaveJob (Some number) before now job = (now ≡ before) × (job ≡ soak_of number)
-GaveJob None before now job = OfText before now (λ text. job_at text ≡ Ok job)
+GaveJob None before now job = OfText before now (λ text. IsJobOf text (Ok job))
 
 -- the record is one that the command's mode makes of its job
 abbrev pub Makes : Command → SourceState → SourceState → Record → Type 0

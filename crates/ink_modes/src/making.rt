@@ -1,7 +1,7 @@
 //! From what a command is given to what it makes.
 
 ghost use Rattle.std.specs.Prelude.{◌≡◌, ◌≤◌, length, Ok, IfOk, IfErr};
-ghost use Rattle.power_trace.specs.Parse.{job_at};
+ghost use Rattle.ink_image.specs.Whole.{IsJobOf};
 ghost use Rattle.ink_modes.specs.Form.{IsAllowed};
 ghost use Rattle.ink_modes.specs.modes.{form_of};
 ghost use Rattle.ink_modes.specs.Made.{OfText, GaveJob, Makes};
@@ -11,8 +11,9 @@ use crate::command::Command;
 use crate::finish::Record;
 use ink_base::limits::TEXT_BYTES;
 use ink_base::{JobAnswer, NoMemory, Status};
+use ink_image::whole_job;
 use ink_io::{ReadAnswer, Source, read_job};
-use power_trace::{Job, parse_job, soak_job};
+use power_trace::{Job, soak_job};
 use std::alloc::Global;
 
 /// The record of a command, and its text.
@@ -52,7 +53,7 @@ fn given_job<S: Source>(alloc: Global, seed: Option<u32>, source: &mut S) -> Res
 
 // The job on the source.
 fn job_on<S: Source>(alloc: Global, source: &mut S) -> Result<Job, Status>
-    ensures job { IfOk result (λ job. OfText (S.state source.old) (S.state source.new) (λ text. job_at text ≡ Ok job)) }
+    ensures job { IfOk result (λ job. OfText (S.state source.old) (S.state source.new) (λ text. IsJobOf text (Ok job))) }
     ensures stops { IfErr result (StopsReading (S.state source.old) (S.state source.new)) }
 {
     match read_job(alloc, source) {
@@ -66,10 +67,10 @@ fn job_on<S: Source>(alloc: Global, source: &mut S) -> Result<Job, Status>
 // The job of a text. Refused where the text has a fault, with the first one.
 fn job_in(alloc: Global, text: &[u8]) -> Result<Job, Status>
     requires { length text.now ≤ TEXT_BYTES }
-    ensures job { IfOk result (λ job. job_at text.now ≡ Ok job) }
+    ensures job { IfOk result (λ job. IsJobOf text.now (Ok job)) }
     ensures stops { IfErr result (StopsText text.now) }
 {
-    match parse_job(alloc, text) {
+    match whole_job(alloc, text) {
         Ok(job) => Ok(job),
         Err(JobAnswer::Fault(fault)) => Err(Status::Refused(fault)),
         Err(JobAnswer::NoMemory) => Err(Status::NoMemory),

@@ -1,7 +1,9 @@
--- `run`: the board of the job on the source is run, and the text of the run is written.
-use Rattle.std.specs.Prelude.{ℕ, true, false, List, [], codes}
+-- `run`: the board of the job on the source is run, and the text of the run is written, with the image that it leaves where that is asked for.
+use Rattle.std.specs.Prelude.{ℕ, true, false, if◌then◌else◌, List, [], ◌++◌, codes}
 use Rattle.job_parts.specs.Job.{JobParts}
+use Rattle.kernel_core.specs.declared.run_record.RunRecord.{RunRecord}
 use Rattle.ink_report.specs.declared.flags.Flags.{Flags}
+use Rattle.ink_image.specs.Text.{image_text}
 use Rattle.ink_modes.specs.declared.finish.Record.{Record}
 use Rattle.ink_modes.specs.declared.finish.Record.TheVariants.{Run}
 use Rattle.ink_modes.specs.Form.{ModeForm}
@@ -12,16 +14,20 @@ abbrev pub Makes : JobParts → Record → Type 0
 Makes job (Run r) = IsRunOf job r
 Makes job _ = ⊥
 
--- the text of the run, with what is shown besides
+-- the image of the words that the run left, where it is asked for
+abbrev pub image_part : RunRecord → Flags → List ℕ
+image_part r flags = if flags.image then image_text r.words else []
+
+-- the text of the run, with what is shown besides, and the image behind it
 abbrev pub text : Flags → Record → List ℕ
-text flags (Run r) = run_text_of r flags
+text flags (Run r) = run_text_of r flags ++ image_part r flags
 text flags _ = []
 
--- it may show the journal, and JSON
+-- it may show the journal, JSON and the image
 abbrev pub run : ModeForm
 run = record {
   word = codes "run";
-  allowed = record { journal = true; json = true; bounds = false; image = false; seed = false };
+  allowed = record { journal = true; json = true; bounds = false; image = true; seed = false };
   makes = Makes;
   text = text;
 }

@@ -1,24 +1,26 @@
-//! `run`: the board of the job on the source is run, and the text of the run is written.
+//! `run`: the board of the job on the source is run, and the text of the run is written, with the image that it leaves where that is asked for.
 
-ghost use Rattle.std.specs.Prelude.{◌≡◌, IfOk};
+ghost use Rattle.std.specs.Prelude.{◌≡◌, ◌++◌, IfOk, OnOk};
 ghost use Rattle.ink_report.specs.Conditions.{IsSupported};
 ghost use Rattle.ink_modes.specs.Run.{IsRunOf};
-ghost use Rattle.ink_modes.specs.modes.Run.{Makes, text};
+ghost use Rattle.ink_modes.specs.modes.Run.{Makes, image_part, text};
 
 use crate::command::Allowed;
 use crate::finish::Record;
 use crate::making::Made;
 use crate::report::report;
 use ink_base::NoMemory;
+use ink_image::write_image;
 use ink_report::Flags;
 use kernel_core::{RunRecord, prepare};
 use power_trace::Job;
 use std::alloc::Global;
 
-/// It may show the journal, and JSON.
+/// It may show the journal, JSON and the image.
 pub const ALLOWED: Allowed = Allowed {
     journal: true,
     json: true,
+    image: true,
     ..Allowed::NONE
 };
 
@@ -29,7 +31,8 @@ pub fn make(alloc: Global, flags: Flags, job: Job) -> Result<Made, NoMemory>
     ensures text { IfOk result (λ made. made.text.items ≡ text flags made.record) }
 {
     let record = record_of(alloc, job)?;
-    let text = report(alloc, &record, flags)?;
+    let mut text = report(alloc, &record, flags)?;
+    put_image(alloc, &mut text, &record, flags)?;
     Ok(Made {
         record: Record::Run(record),
         text,
@@ -43,4 +46,20 @@ fn record_of(alloc: Global, job: Job) -> Result<RunRecord, NoMemory>
     let mut core = prepare(alloc, job)?;
     core.run();
     Ok(core.into_record())
+}
+
+// Appends the image of the words that the run left, where it is asked for.
+fn put_image(
+    alloc: Global,
+    text: &mut Vec<u8>,
+    run: &RunRecord,
+    flags: Flags,
+) -> Result<(), NoMemory>
+    ensures { OnOk result (text.new.items ≡ text.old.items ++ image_part run.now flags) }
+{
+    if flags.image {
+        let image = write_image(alloc, run.words.as_slice())?;
+        text.extend_from_slice(image.as_slice())?;
+    }
+    Ok(())
 }

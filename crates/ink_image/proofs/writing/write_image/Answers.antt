@@ -1,4 +1,4 @@
-use Rattle.ink_image.proofs.Common.{◌≡◌, ◌<◌, List, ℕ, sym, subst, rules, arith, common_steps, image_text, Says}
+use Rattle.ink_image.proofs.Common.{◌≡◌, List, ℕ, sym, subst, arith, common_steps, image_text, Says}
 use Rattle.ink_image.proofs.Again.{says_again}
 use Rattle.ink_image.proofs.writing.write_image.Goals as goal
 
