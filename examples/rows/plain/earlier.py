@@ -1,7 +1,7 @@
 """Words of the earlier form: those of a board whose words are in today's. Its events have no count, and so it takes the journal up to there."""
 
 from plain.told import Told
-from plain.words import EARLIER, FINISHED, NEXT, ORIGIN, TODAY
+from plain.words import EARLIER, NEXT, ORIGIN
 
 
 def accepted_readings(entries, source):

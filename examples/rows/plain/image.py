@@ -3,9 +3,10 @@
 import re
 from typing import NamedTuple
 
-from plain.board import Board, origin_of_source
+from plain.board import Board
+from plain.kernel import origin_of_source
 from plain.told import Told, run_text
-from plain.words import EARLIER, EXPIRED, FINISHED, FIRST, HEADER, NEXT, ORIGIN, OUTPUTS, SERVED, STAMP, TODAY, VALUE, Places, due, first_words, period, taken, written
+from plain.words import EARLIER, EXPIRED, FINISHED, FIRST, HEADER, NEXT, ORIGIN, OUTPUTS, SERVED, STAMP, TODAY, VALUE, Places, due, first_words, taken, written
 
 READINGS = 65535  # the most that a source may have
 POSITIONS = 16 * READINGS  # the greatest tail

@@ -2,7 +2,7 @@
 
 from typing import NamedTuple
 
-from plain.board import LOW
+from plain.access import LOW
 from plain.words import EARLIER, EXPIRED, FINISHED, OUTPUTS, SERVED, STAMP, TODAY, TRAPPED, Places
 
 
