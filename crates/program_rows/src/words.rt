@@ -28,7 +28,7 @@ const OTHER_WORDS: &[&[&str]] = &[
     &["run", "--seed"],
     &["run", "--"],
     &["run", "--bounds"],
-    &["run", "--image"],
+    &["soak", "--seed", "5", "--image"],
     &["run", "--help"],
     &["print", "run"],
     &["print", "--json"],
