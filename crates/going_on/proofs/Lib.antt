@@ -1,6 +1,7 @@
 mod Common
 pub mod Outputs
 pub mod Told
+pub mod Rises
 pub mod Alike
 pub mod ReadStates
 pub mod Parts

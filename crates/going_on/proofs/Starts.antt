@@ -7,7 +7,8 @@ use Rattle.job_parts.specs.Job.{IsStart, first_model, words_in}
 use Rattle.never_cut.specs.ReadOff.{IsOutputOf, IsReadOff}
 use Rattle.never_cut.proofs.SoundStates.{sound_after}
 use Rattle.kernel_core.proofs.Standing.{board_stands}
-use Rattle.going_on.proofs.Alike.{AgreeFrom, image_at, rises_after}
+use Rattle.going_on.proofs.Rises.{AgreeFrom, rises_after}
+use Rattle.going_on.proofs.Alike.{image_at}
 use Rattle.going_on.proofs.ReadStates.{outputs_known, reads, is_read}
 use Rattle.going_on.proofs.Parts.{joined_journal}
 use Rattle.going_on.proofs.PartJobs.{settled_length, settled_at}

@@ -6,7 +6,8 @@ use Rattle.never_cut.specs.Image.{IsImage}
 use Rattle.never_cut.specs.Images.{AreListed}
 use Rattle.never_cut.specs.Worn.{IsWorn}
 use Rattle.kernel_core.proofs.JobMoves.{job_prefixes_stand}
-use Rattle.going_on.proofs.Alike.{IsAlike, after_alike}
+use Rattle.going_on.proofs.Rises.{IsAlike}
+use Rattle.going_on.proofs.Alike.{after_alike}
 use Rattle.going_on.proofs.PartJobs.{settled_right, all_right}
 use Rattle.going_on.proofs.Wholes.{s, at_split, whole_is, holds, front_job, back_job}
 use Rattle.going_on.proofs.Starts.{stands_at, start_is, start_words, start_memory, split_journal, split_state, floor, floor_within, lengths_are, agree_from, after_both, legal_both}
