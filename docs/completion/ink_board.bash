@@ -8,7 +8,7 @@ _ink_board_flags() {
   case $1 in
     '') echo --seed --journal --json --image ;;
     run) echo --journal --json --image ;;
-    print) ;;
+    print | sweep) ;;
     soak) echo --seed --journal --json ;;
   esac
 }
@@ -16,7 +16,7 @@ _ink_board_flags() {
 # The modes that take all of these flags.
 _ink_board_modes() {
   local mode flag
-  for mode in run print soak; do
+  for mode in run print sweep soak; do
     for flag in "$@"; do
       [[ " $(_ink_board_flags "$mode") " == *" $flag "* ]] || continue 2
     done
@@ -49,7 +49,7 @@ _ink_board() {
     ((index == COMP_CWORD)) && continue
     case ${COMP_WORDS[index]} in
       '<' | '>' | '>>' | '>|' | '<>') ((index++)) ;;
-      run | print | soak) mode=${COMP_WORDS[index]} ;;
+      run | print | sweep | soak) mode=${COMP_WORDS[index]} ;;
       --seed=*) used+=(--seed) ;;
       --journal | --json | --image | --seed) used+=("${COMP_WORDS[index]}") ;;
     esac

@@ -1,5 +1,6 @@
 mod Common
 pub mod Pieces
 pub mod Runs
+pub mod Gives
 pub mod Told
 pub mod Charges

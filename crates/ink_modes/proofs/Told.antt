@@ -4,12 +4,12 @@ use Rattle.std.specs.Io.KnownBytes.{Consumes, IsAtEnd}
 use Rattle.ink_base.specs.declared.fault.JobFault.{JobFault}
 use Rattle.ink_base.specs.declared.status.Status.{Status}
 use Rattle.ink_base.specs.declared.status.Status.TheVariants.{Done, Usage, Refused, ReadFault, WriteFault, NoMemory, TooLong}
-use Rattle.ink_image.specs.Whole.{IsJobOf}
-use Rattle.ink_image.proofs.Once.{one_answer}
 use Rattle.ink_io.specs.Counts.{Rose}
 use Rattle.ink_io.specs.States.{SourceState, SinkState}
 use Rattle.ink_modes.specs.declared.finish.Record.{Record}
+use Rattle.ink_modes.specs.declared.modes.Mode.{Mode}
 use Rattle.ink_modes.specs.Answers.{Stops, Wrote, TellsCommand, DoesNothing, Tells, Needs, IsComplete}
+use Rattle.ink_modes.proofs.Gives.{gives_once}
 
 -- the command of words is the one that was found
 same_command : (words : List Word) (result : Option Command) (command other : Command) → result ≡ Some command →
@@ -54,17 +54,17 @@ to_end (Some xs) (Some ys) bytes text took end is =
     sym (append-nil bytes) ∙ (ap (λ (l : List ℕ). bytes ++ l) (sym end) ∙ (sym took ∙ inner))
 
 -- a command that has what it needs stops only where memory is wanted
-wants_memory : (seed : Option ℕ) (before now : SourceState) (status : Status) → Stops seed before now status → Needs seed before → ¬ Rose before.faults now.faults →
+wants_memory : (m : Mode) (seed : Option ℕ) (before now : SourceState) (status : Status) → Stops m seed before now status → Needs m seed before → ¬ Rose before.faults now.faults →
     status ≡ NoMemory
-wants_memory (Some number) before now status stops needs clean = stops.0
-wants_memory None before now NoMemory stops needs clean = refl
-wants_memory None before now ReadFault stops needs clean = absurd (clean stops.0)
-wants_memory None before now TooLong stops needs clean = absurd (no_more before.left now.left stops.1.0 needs.0 stops.1.1.taken needs.1 needs.2 stops.1.2)
-wants_memory None before now (Refused fault) stops needs clean = absurd (one_answer needs.0 needs.3.0 fault needs.3.1
-    (subst (λ (text : List ℕ). IsJobOf text (Err fault)) (to_end before.left now.left stops.0 needs.0 stops.1.bytes stops.1.end needs.1) stops.2))
-wants_memory None before now Done stops needs clean = absurd stops
-wants_memory None before now Usage stops needs clean = absurd stops
-wants_memory None before now WriteFault stops needs clean = absurd stops
+wants_memory m (Some number) before now status stops needs clean = stops.0
+wants_memory m None before now NoMemory stops needs clean = refl
+wants_memory m None before now ReadFault stops needs clean = absurd (clean stops.0)
+wants_memory m None before now TooLong stops needs clean = absurd (no_more before.left now.left stops.1.0 needs.0 stops.1.1.taken needs.1 needs.2 stops.1.2)
+wants_memory m None before now (Refused fault) stops needs clean = absurd (gives_once m needs.0 needs.3.0 fault needs.3.1
+    (subst (λ (text : List ℕ). (form_of m).gives text (Err fault)) (to_end before.left now.left stops.0 needs.0 stops.1.bytes stops.1.end needs.1) stops.2))
+wants_memory m None before now Done stops needs clean = absurd stops
+wants_memory m None before now Usage stops needs clean = absurd stops
+wants_memory m None before now WriteFault stops needs clean = absurd stops
 
 -- a text is written whole where no write fails
 is_done : (before now : SinkState) (text : List ℕ) (status : Status) → Wrote before now text status → ¬ Rose before.faults now.faults → status ≡ Done
@@ -77,9 +77,9 @@ is_done before now text NoMemory wrote clean = absurd wrote
 is_done before now text TooLong wrote clean = absurd wrote
 
 done_or_memory : (command : Command) (before now : SourceState) (sink sink_now : SinkState) (status : Status) (kept : Option Record) →
-    TellsCommand command before now sink sink_now status kept → Needs command.flags.seed before → ¬ Rose before.faults now.faults → ¬ Rose sink.faults sink_now.faults →
+    TellsCommand command before now sink sink_now status kept → Needs command.mode command.flags.seed before → ¬ Rose before.faults now.faults → ¬ Rose sink.faults sink_now.faults →
     (status ≡ Done) ⊎ (status ≡ NoMemory)
-done_or_memory command before now sink sink_now status None tells needs clean sink_clean = inr (wants_memory command.flags.seed before now status tells.0 needs clean)
+done_or_memory command before now sink sink_now status None tells needs clean sink_clean = inr (wants_memory command.mode command.flags.seed before now status tells.0 needs clean)
 done_or_memory command before now sink sink_now status (Some made) tells needs clean sink_clean =
     inl (is_done sink sink_now ((form_of command.mode).text command.flags made) status tells.1 sink_clean)
 

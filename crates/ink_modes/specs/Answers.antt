@@ -9,31 +9,31 @@ use Rattle.ink_io.specs.Counts.{Rose}
 use Rattle.ink_io.specs.States.{SourceState, SinkState}
 use Rattle.ink_io.specs.Whole.{GaveText, StopsRead, WroteText, WrotePart}
 use Rattle.job_parts.specs.Job.{JobParts}
-use Rattle.ink_image.specs.Whole.{IsJobOf}
 use Rattle.ink_modes.specs.declared.command.Command.{Command}
 use Rattle.ink_modes.specs.declared.finish.Record.{Record}
+use Rattle.ink_modes.specs.declared.modes.Mode.{Mode}
 use Rattle.ink_modes.specs.modes.{form_of}
 use Rattle.ink_modes.specs.Words.{IsCommand}
 use Rattle.ink_modes.specs.Made.{OfText, Makes}
 
--- why a text gave no job: this is its first fault, or memory is refused
-abbrev pub StopsText : List ℕ → Status → Type 0
-StopsText text (Refused fault) = IsJobOf text (Err fault)
-StopsText text NoMemory = Unit {0}
-StopsText text _ = ⊥
+-- why a text gave no job to a mode: it refuses the text with this fault, or memory is refused
+abbrev pub StopsText : Mode → List ℕ → Status → Type 0
+StopsText mode text (Refused fault) = (form_of mode).gives text (Err fault)
+StopsText mode text NoMemory = Unit {0}
+StopsText mode text _ = ⊥
 
 -- Why a command that reads its job stopped before its text was made. Memory may be refused while the job is read, or behind that.
-abbrev pub StopsReading : SourceState → SourceState → Status → Type 0
-StopsReading before now ReadFault = StopsRead before now reading.ReadFault
-StopsReading before now TooLong = StopsRead before now reading.TooLong
-StopsReading before now (Refused fault) = OfText before now (λ text. IsJobOf text (Err fault))
-StopsReading before now NoMemory = StopsRead before now reading.NoMemory ⊎ ((text : List ℕ) × GaveText before now text)
-StopsReading before now _ = ⊥
+abbrev pub StopsReading : Mode → SourceState → SourceState → Status → Type 0
+StopsReading mode before now ReadFault = StopsRead before now reading.ReadFault
+StopsReading mode before now TooLong = StopsRead before now reading.TooLong
+StopsReading mode before now (Refused fault) = OfText before now (λ text. (form_of mode).gives text (Err fault))
+StopsReading mode before now NoMemory = StopsRead before now reading.NoMemory ⊎ ((text : List ℕ) × GaveText before now text)
+StopsReading mode before now _ = ⊥
 
 -- why a command stopped before its text was made; one with a seed reads nothing, and has memory alone to want
-abbrev pub Stops : Option ℕ → SourceState → SourceState → Status → Type 0
-Stops (Some number) before now status = (status ≡ NoMemory) × (now ≡ before)
-Stops None before now status = StopsReading before now status
+abbrev pub Stops : Mode → Option ℕ → SourceState → SourceState → Status → Type 0
+Stops mode (Some number) before now status = (status ≡ NoMemory) × (now ≡ before)
+Stops mode None before now status = StopsReading mode before now status
 
 -- what became of the text
 abbrev pub Wrote : SinkState → SinkState → List ℕ → Status → Type 0
@@ -43,7 +43,7 @@ Wrote before now text _ = ⊥
 
 -- What a command tells by its status and by what it kept. Where it kept nothing, it made and wrote nothing.
 abbrev pub TellsCommand : Command → (before now : SourceState) → (sink sink_now : SinkState) → Status → Option Record → Type 0
-TellsCommand command before now sink sink_now status None = Stops command.flags.seed before now status × (sink_now ≡ sink)
+TellsCommand command before now sink sink_now status None = Stops command.mode command.flags.seed before now status × (sink_now ≡ sink)
 TellsCommand command before now sink sink_now status (Some made) =
     Makes command before now made × Wrote sink sink_now ((form_of command.mode).text command.flags made) status
 
@@ -56,17 +56,17 @@ pub record Tells (words : List Word) (before now : SourceState) (sink sink_now :
   pub command : (command : Command) → IsCommand words command → TellsCommand command before now sink sink_now status kept
   pub usage : ((command : Command) → ¬ IsCommand words command) → DoesNothing before now sink sink_now status kept
 
--- the source has the text of a job, and tells it
-abbrev pub HasJob : SourceState → Type 0
-HasJob source = (text : List ℕ) × (source.left ≡ Some text) × (length text ≤ limits.TEXT_BYTES) × ((job : JobParts) × IsJobOf text (Ok job))
+-- the source has a text that gives a job to the mode, and tells it
+abbrev pub HasJob : Mode → SourceState → Type 0
+HasJob mode source = (text : List ℕ) × (source.left ≡ Some text) × (length text ≤ limits.TEXT_BYTES) × ((job : JobParts) × (form_of mode).gives text (Ok job))
 
 -- what a command needs of its source: nothing, where it has a seed
-abbrev pub Needs : Option ℕ → SourceState → Type 0
-Needs (Some number) source = Unit {0}
-Needs None source = HasJob source
+abbrev pub Needs : Mode → Option ℕ → SourceState → Type 0
+Needs mode (Some number) source = Unit {0}
+Needs mode None source = HasJob mode source
 
 -- Words that are a command are done, unless memory is wanted, where the source has what the command needs and no read or write failed.
 abbrev pub IsComplete : List Word → (before now : SourceState) → (sink sink_now : SinkState) → Status → Type 0
 IsComplete words before now sink sink_now status =
-    (command : Command) → IsCommand words command → Needs command.flags.seed before → ¬ Rose before.faults now.faults → ¬ Rose sink.faults sink_now.faults →
+    (command : Command) → IsCommand words command → Needs command.mode command.flags.seed before → ¬ Rose before.faults now.faults → ¬ Rose sink.faults sink_now.faults →
     (status ≡ Done) ⊎ (status ≡ NoMemory)

@@ -1,6 +1,7 @@
 -- What a mode is.
-use Rattle.std.specs.Prelude.{◌≡◌, ℕ, Bool, true, false, List, Option, None, IsSome}
+use Rattle.std.specs.Prelude.{◌≡◌, ℕ, Bool, true, false, List, Option, None, IsSome, Result}
 use Rattle.ink_base.specs.Lines.{Word}
+use Rattle.ink_base.specs.declared.fault.JobFault.{JobFault}
 use Rattle.job_parts.specs.Job.{JobParts}
 use Rattle.ink_report.specs.declared.flags.Flags.{Flags}
 use Rattle.ink_modes.specs.declared.command.Allowed.{Allowed}
@@ -24,10 +25,12 @@ pub record IsAllowed (allowed : Allowed) (flags : Flags) : Type 0 where
   pub image : FitsFlag allowed.image flags.image
   pub seed : FitsSeed allowed.seed flags.seed
 
--- A mode: its word on the command line, the flags that it may have, the records that it may make of a job, and the text of a record. The
--- job is the one that is generated from the seed; a mode without a seed reads it from the source.
+-- A mode: its word on the command line, the flags that it may have, the job that a text gives to it or the fault with which it refuses the text, the
+-- records that it may make of a job, and the text of a record. The job is the one that is generated from the seed; a mode without a seed reads the text
+-- from the source.
 pub record ModeForm : Type 1 where
   pub word : Word
   pub allowed : Allowed
+  pub gives : List ℕ → Result JobParts JobFault → Type 0
   pub makes : JobParts → Record → Type 0
   pub text : Flags → Record → List ℕ

@@ -2,22 +2,22 @@
 use Rattle.std.specs.Prelude.{◌≡◌, ℕ, List, Option, Some, None, Ok}
 use Rattle.job_parts.specs.Job.{JobParts}
 use Rattle.power_trace.specs.Soak.{soak_of}
-use Rattle.ink_image.specs.Whole.{IsJobOf}
 use Rattle.ink_io.specs.States.{SourceState}
 use Rattle.ink_io.specs.Whole.{GaveText}
 use Rattle.ink_modes.specs.declared.command.Command.{Command}
 use Rattle.ink_modes.specs.declared.finish.Record.{Record}
+use Rattle.ink_modes.specs.declared.modes.Mode.{Mode}
 use Rattle.ink_modes.specs.modes.{form_of}
 
 -- a text to the end of the source of which something holds
 abbrev pub OfText : SourceState → SourceState → (List ℕ → Type 0) → Type 0
 OfText before now P = (text : List ℕ) × GaveText before now text × P text
 
--- the job that is generated from a seed, and nothing is read; with no seed, that of the source's text
-abbrev pub GaveJob : Option ℕ → SourceState → SourceState → JobParts → Type 0
-GaveJob (Some number) before now job = (now ≡ before) × (job ≡ soak_of number)
-GaveJob None before now job = OfText before now (λ text. IsJobOf text (Ok job))
+-- the job that is generated from a seed, and nothing is read; with no seed, the one that the source's text gives to the mode
+abbrev pub GaveJob : Mode → Option ℕ → SourceState → SourceState → JobParts → Type 0
+GaveJob mode (Some number) before now job = (now ≡ before) × (job ≡ soak_of number)
+GaveJob mode None before now job = OfText before now (λ text. (form_of mode).gives text (Ok job))
 
 -- the record is one that the command's mode makes of its job
 abbrev pub Makes : Command → SourceState → SourceState → Record → Type 0
-Makes command before now made = (job : JobParts) × GaveJob command.flags.seed before now job × (form_of command.mode).makes job made
+Makes command before now made = (job : JobParts) × GaveJob command.mode command.flags.seed before now job × (form_of command.mode).makes job made

@@ -7,17 +7,20 @@ use Rattle.ink_modes.specs.declared.modes.Mode.TheVariants as mode
 use Rattle.ink_modes.specs.Form.{ModeForm}
 use Rattle.ink_modes.specs.modes.Run.{run}
 use Rattle.ink_modes.specs.modes.Soak.{soak}
+use Rattle.ink_modes.specs.modes.Sweep.{sweep}
 use Rattle.ink_modes.specs.modes.Print.{print}
 pub mod Run
 pub mod Soak
+pub mod Sweep
 pub mod Print
 
 -- what each mode is
 abbrev pub form_of : Mode → ModeForm
 form_of mode.Run = run
 form_of mode.Soak = soak
+form_of mode.Sweep = sweep
 form_of mode.Print = print
 
 -- the mode whose word this is
 abbrev pub mode_named : Word → Option Mode
-mode_named word = find (λ m. bytes_eq word (form_of m).word) (mode.Run ∷ mode.Soak ∷ mode.Print ∷ [])
+mode_named word = find (λ m. bytes_eq word (form_of m).word) (mode.Run ∷ mode.Soak ∷ mode.Sweep ∷ mode.Print ∷ [])

@@ -1,6 +1,7 @@
 //! How a call of the program ends.
 
 use ink_base::Status;
+use ink_report::SweepTable;
 use kernel_core::RunRecord;
 use prog_check::Accepted;
 
@@ -9,6 +10,8 @@ use prog_check::Accepted;
 pub enum Record {
     /// The record of the board that was run.
     Run(RunRecord),
+    /// The table of the runs of a job that was cut at each of its turns.
+    Sweep(SweepTable),
     /// The program that was printed.
     Print(Accepted),
 }

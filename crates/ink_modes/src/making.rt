@@ -1,7 +1,6 @@
 //! From what a command is given to what it makes.
 
 ghost use Rattle.std.specs.Prelude.{◌≡◌, ◌≤◌, length, Ok, IfOk, IfErr};
-ghost use Rattle.ink_image.specs.Whole.{IsJobOf};
 ghost use Rattle.ink_modes.specs.Form.{IsAllowed};
 ghost use Rattle.ink_modes.specs.modes.{form_of};
 ghost use Rattle.ink_modes.specs.Made.{OfText, GaveJob, Makes};
@@ -9,9 +8,9 @@ ghost use Rattle.ink_modes.specs.Answers.{StopsText, StopsReading, Stops};
 
 use crate::command::Command;
 use crate::finish::Record;
+use crate::modes::Mode;
 use ink_base::limits::TEXT_BYTES;
 use ink_base::{JobAnswer, NoMemory, Status};
-use ink_image::whole_job;
 use ink_io::{ReadAnswer, Source, read_job};
 use power_trace::{Job, soak_job};
 use std::alloc::Global;
@@ -28,9 +27,9 @@ pub fn make<S: Source>(alloc: Global, command: Command, source: &mut S) -> Resul
     requires { IsAllowed (form_of command.mode).allowed command.flags }
     ensures record { IfOk result (λ made. Makes command (S.state source.old) (S.state source.new) made.record) }
     ensures text { IfOk result (λ made. made.text.items ≡ (form_of command.mode).text command.flags made.record) }
-    ensures stops { IfErr result (Stops command.flags.seed (S.state source.old) (S.state source.new)) }
+    ensures stops { IfErr result (Stops command.mode command.flags.seed (S.state source.old) (S.state source.new)) }
 {
-    let job = given_job(alloc, command.flags.seed, source)?;
+    let job = given_job(alloc, command.mode, command.flags.seed, source)?;
     match command.mode.make(alloc, command.flags, job) {
         Ok(made) => Ok(made),
         Err(NoMemory) => Err(Status::NoMemory),
@@ -38,12 +37,17 @@ pub fn make<S: Source>(alloc: Global, command: Command, source: &mut S) -> Resul
 }
 
 // The job that is generated from a seed; with no seed, the one on the source.
-fn given_job<S: Source>(alloc: Global, seed: Option<u32>, source: &mut S) -> Result<Job, Status>
-    ensures job { IfOk result (GaveJob seed (S.state source.old) (S.state source.new)) }
-    ensures stops { IfErr result (Stops seed (S.state source.old) (S.state source.new)) }
+fn given_job<S: Source>(
+    alloc: Global,
+    mode: Mode,
+    seed: Option<u32>,
+    source: &mut S,
+) -> Result<Job, Status>
+    ensures job { IfOk result (GaveJob mode seed (S.state source.old) (S.state source.new)) }
+    ensures stops { IfErr result (Stops mode seed (S.state source.old) (S.state source.new)) }
 {
     let Some(number) = seed else {
-        return job_on(alloc, source);
+        return job_on(alloc, mode, source);
     };
     match soak_job(alloc, number) {
         Ok(job) => Ok(job),
@@ -51,26 +55,26 @@ fn given_job<S: Source>(alloc: Global, seed: Option<u32>, source: &mut S) -> Res
     }
 }
 
-// The job on the source.
-fn job_on<S: Source>(alloc: Global, source: &mut S) -> Result<Job, Status>
-    ensures job { IfOk result (λ job. OfText (S.state source.old) (S.state source.new) (λ text. IsJobOf text (Ok job))) }
-    ensures stops { IfErr result (StopsReading (S.state source.old) (S.state source.new)) }
+// The job that the text on the source gives to a mode.
+fn job_on<S: Source>(alloc: Global, mode: Mode, source: &mut S) -> Result<Job, Status>
+    ensures job { IfOk result (λ job. OfText (S.state source.old) (S.state source.new) (λ text. (form_of mode).gives text (Ok job))) }
+    ensures stops { IfErr result (StopsReading mode (S.state source.old) (S.state source.new)) }
 {
     match read_job(alloc, source) {
-        Ok(text) => job_in(alloc, text.as_slice()),
+        Ok(text) => job_in(alloc, mode, text.as_slice()),
         Err(ReadAnswer::ReadFault) => Err(Status::ReadFault),
         Err(ReadAnswer::TooLong) => Err(Status::TooLong),
         Err(ReadAnswer::NoMemory) => Err(Status::NoMemory),
     }
 }
 
-// The job of a text. Refused where the text has a fault, with the first one.
-fn job_in(alloc: Global, text: &[u8]) -> Result<Job, Status>
+// The job that a text gives to a mode. Refused where the mode refuses the text, with its fault.
+fn job_in(alloc: Global, mode: Mode, text: &[u8]) -> Result<Job, Status>
     requires { length text.now ≤ TEXT_BYTES }
-    ensures job { IfOk result (λ job. IsJobOf text.now (Ok job)) }
-    ensures stops { IfErr result (StopsText text.now) }
+    ensures job { IfOk result (λ job. (form_of mode).gives text.now (Ok job)) }
+    ensures stops { IfErr result (StopsText mode text.now) }
 {
-    match whole_job(alloc, text) {
+    match mode.job_of(alloc, text) {
         Ok(job) => Ok(job),
         Err(JobAnswer::Fault(fault)) => Err(Status::Refused(fault)),
         Err(JobAnswer::NoMemory) => Err(Status::NoMemory),

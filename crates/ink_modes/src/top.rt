@@ -14,11 +14,13 @@ use ink_io::{Sink, Source, write_all_text};
 use std::alloc::Global;
 
 /// Does what the words after the program's name say. `run` reads a job from the source, runs its board, and writes the text of the run to
-/// the sink, with what its flags show; `soak` does so for the job that is generated from its number, without the outputs; `print` reads a
-/// job and writes the canonical text of its program. The words are in docs/FORMATS.md, "The words".
+/// the sink, with what its flags show; `soak` does so for the job that is generated from its number, without the outputs; `sweep` runs the
+/// board of a job once for each number of turns of its first charge, and writes a line for each run; `print` reads a job and writes the
+/// canonical text of its program. The words are in docs/FORMATS.md, "The words".
 ///
 /// `Usage`: the words are no command, and nothing was read. `ReadFault`: a read failed. `TooLong`: the source gave a byte more than a job may
-/// have. `Refused`: the bytes to the end of the source have a fault, and this is the first one with its line. `NoMemory`: memory was refused.
+/// have. `Refused`: the bytes to the end of the source have a fault, and this is the first one with its line; with `sweep` the last is a job of
+/// more than 8,192 turns. `NoMemory`: memory was refused.
 /// After all of these nothing was written, and nothing is kept. `Done`: the command's record for its job is kept, and its whole text was
 /// written. `WriteFault`: the same, but a write failed, and a part of the text from its beginning was written. A command is done, unless
 /// memory is refused, where no read or write fails and its source has and tells the text of a job; `soak` needs no source.

@@ -4,4 +4,5 @@ pub mod Journal
 pub mod Json
 pub mod Report
 pub mod Conditions
+pub mod Sweep
 pub mod kept

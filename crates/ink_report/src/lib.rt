@@ -8,6 +8,7 @@ mod lines;
 mod names;
 mod report;
 mod summary;
+mod sweep;
 
 pub use flags::Flags;
 pub use journal::put_entries;
@@ -15,3 +16,4 @@ pub use json::put_json;
 pub use lines::put_summary;
 pub use report::{put_head, run_text};
 pub use summary::{SourceSummary, Summary, ThreadSummary};
+pub use sweep::{SweepRow, SweepTable, sweep_text};

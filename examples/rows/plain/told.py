@@ -69,6 +69,10 @@ class Told:
         words = [(self.words[self.places.log(thread, number)], thread) for thread in self.threads for number in range(self.head(thread, OUTPUTS))]
         return sorted(((word >> 32, thread, word & LOW) for word, thread in words), key=lambda output: output[0])
 
+    def commits(self):
+        """The newest stamp."""
+        return max(self.head(thread, STAMP) for thread in self.threads)
+
 
 def run_text(board, charges, flags):
     """What `run` writes of a board after its last charge."""
@@ -80,8 +84,7 @@ def run_text(board, charges, flags):
     for number in told.sources:
         pushed, refused = entries.count(f"Push S{number}"), entries.count(f"Refuse S{number}")
         lines.append(f"source S{number} next {told.source(number).next} pushed {pushed} refused {refused}")
-    commits = max(told.head(thread, STAMP) for thread in told.threads)
-    lines.append(f"clock {board.words[told.places.clock]} commits {commits} charges {charges}")
+    lines.append(f"clock {board.words[told.places.clock]} commits {told.commits()} charges {charges}")
     if "--journal" in flags:
         lines += ["[journal]", *entries]
     text = "".join(f"{line}\n" for line in lines)

@@ -3,6 +3,7 @@ use Rattle.std.specs.Prelude.{◌≡◌, ℕ, false, List, [], codes}
 use Rattle.job_parts.specs.Job.{JobParts}
 use Rattle.program_text.specs.Print.{print_of}
 use Rattle.ink_report.specs.declared.flags.Flags.{Flags}
+use Rattle.ink_image.specs.Whole.{IsJobOf}
 use Rattle.ink_modes.specs.declared.finish.Record.{Record}
 use Rattle.ink_modes.specs.declared.finish.Record.TheVariants.{Print}
 use Rattle.ink_modes.specs.Form.{ModeForm}
@@ -22,6 +23,7 @@ abbrev pub print : ModeForm
 print = record {
   word = codes "print";
   allowed = record { journal = false; json = false; bounds = false; image = false; seed = false };
+  gives = IsJobOf;
   makes = Makes;
   text = text;
 }

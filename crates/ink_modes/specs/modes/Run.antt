@@ -4,6 +4,7 @@ use Rattle.job_parts.specs.Job.{JobParts}
 use Rattle.kernel_core.specs.declared.run_record.RunRecord.{RunRecord}
 use Rattle.ink_report.specs.declared.flags.Flags.{Flags}
 use Rattle.ink_image.specs.Text.{image_text}
+use Rattle.ink_image.specs.Whole.{IsJobOf}
 use Rattle.ink_modes.specs.declared.finish.Record.{Record}
 use Rattle.ink_modes.specs.declared.finish.Record.TheVariants.{Run}
 use Rattle.ink_modes.specs.Form.{ModeForm}
@@ -28,6 +29,7 @@ abbrev pub run : ModeForm
 run = record {
   word = codes "run";
   allowed = record { journal = true; json = true; bounds = false; image = true; seed = false };
+  gives = IsJobOf;
   makes = Makes;
   text = text;
 }

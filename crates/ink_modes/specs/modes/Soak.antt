@@ -1,5 +1,6 @@
 -- `soak`: the board of the job that is generated from the seed is run, and the text of the run is written without its outputs.
 use Rattle.std.specs.Prelude.{true, false, codes}
+use Rattle.ink_image.specs.Whole.{IsJobOf}
 use Rattle.ink_modes.specs.Form.{ModeForm}
 use Rattle.ink_modes.specs.modes.Run.{Makes, text}
 
@@ -8,6 +9,7 @@ abbrev pub soak : ModeForm
 soak = record {
   word = codes "soak";
   allowed = record { journal = true; json = true; bounds = false; image = false; seed = true };
+  gives = IsJobOf;
   makes = Makes;
   text = text;
 }

@@ -1,0 +1,4 @@
+pub mod Sums
+pub mod Tells
+pub mod Cuts
+pub mod Runs

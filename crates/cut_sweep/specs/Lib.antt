@@ -1,0 +1,4 @@
+pub mod Cut
+pub mod Sweep
+pub mod Limit
+pub mod kept
