@@ -33,9 +33,10 @@ pub record IsWornOut (form : Form) (program : Program) (listed words : List ℕ)
   pub image : IsImageIn form program (memory_in program words)
   pub worn : IsWornIn form program listed (memory_in program words)
 
--- The words are an image that isn't worn. The start has these words in today's form, and the state that is read off them.
+-- The words are an image that isn't worn. The start has these words in today's form, as many as the board has, and the state that is read off them.
 pub record GivesStart (form : Form) (program : Program) (listed words : List ℕ) (start : Start) : Type 0 where
   pub count : HasWords program words
+  pub count_today : HasWords program start.words
   pub image : IsImageIn form program (memory_in program words)
   pub fresh : ¬ IsWornIn form program listed (memory_in program words)
   pub today : AreToday form program words start.words

@@ -10,6 +10,7 @@ use Rattle.ink_modes.specs.declared.finish.Record.{Record}
 use Rattle.ink_modes.specs.declared.modes.Mode.{Mode}
 use Rattle.ink_modes.specs.Answers.{Stops, Wrote, TellsCommand, DoesNothing, Tells, Needs, IsComplete}
 use Rattle.ink_modes.proofs.Gives.{gives_once}
+use Rattle.ink_base.specs.declared.limits.TheConstants as limits
 
 -- the command of words is the one that was found
 same_command : (words : List Word) (result : Option Command) (command other : Command) → result ≡ Some command →
@@ -35,7 +36,7 @@ told_none words result before now sink sink_now status kept none exact nothing =
 }
 
 -- no source gives more bytes than it has
-no_more : (left now : Option (List ℕ)) (bytes text : List ℕ) → Consumes left now bytes → left ≡ Some text → length text ≤ 4194304 → length bytes ≡ 4194305 → ⊥
+no_more : (left now : Option (List ℕ)) (bytes text : List ℕ) → Consumes left now bytes → left ≡ Some text → length text ≤ limits.TEXT_BYTES → length bytes ≡ limits.TEXT_BYTES + 1 → ⊥
 no_more None now bytes text took is short long = let clash : None ≡ Some text = is in absurd cc
 no_more (Some xs) None bytes text took is short long = took
 no_more (Some xs) (Some ys) bytes text took is short long =

@@ -4,6 +4,7 @@ use Rattle.std.proofs.lemmas.Option.{none-some}
 use Rattle.std.proofs.lemmas.Nat.{mod_below, shr_below}
 use Rattle.prog_check.specs.Accepted.{IsAccepted}
 use Rattle.power_trace.specs.Soak.{state_after, draws, drawn_charges}
+use Rattle.ink_base.specs.declared.limits.TheConstants as limits
 
 draw_below : (x n : ℕ) → draw x n < 2 ^ 16
 unfolding state_after
@@ -21,7 +22,7 @@ draws_below x first (suc n) =
     let small = draw_below x (first + n) in
     All-push (λ value. value < 2 ^ 32) (draws x first n) (draw x (first + n)) (draws_below x first n) (omega arith)
 
-draws_right : (x first n : ℕ) → n ≤ 65535 → AreReadings (draws x first n)
+draws_right : (x first n : ℕ) → n ≤ limits.READINGS → AreReadings (draws x first n)
 draws_right x first n le = record { count = omega (arith, length-draws x first n); below = draws_below x first n }
 
 readings_right : (x : ℕ) → All AreReadings (soak_readings x)

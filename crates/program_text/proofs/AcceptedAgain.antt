@@ -8,6 +8,7 @@ use Rattle.program_text.proofs.TasksAgain.{CanInstrs}
 use Rattle.program_text.proofs.AllTasksAgain.{behind_tasks, all_code, drafted_size, drafted_taken, CanBehind}
 use Rattle.program_text.proofs.TargetsAgain.{CanAim}
 use Rattle.program_text.proofs.SectionAgain.{CanSource, CanPipe, CanTimer, without_tasks, CanRead}
+use Rattle.ink_base.specs.declared.limits.TheConstants as limits
 
 new_again : {X : Type 0} (name : X → Word) (most : ℕ) (xs : List X) (d : X) (i : ℕ) → i < length xs → length xs ≤ most → is_name (name (get_or xs i d)) ≡ true → AreDistinct (λ k. name (get_or xs k d)) (length xs)
     → IsNew name most (take i xs) (get_or xs i d)
@@ -51,7 +52,7 @@ code_upto (t ∷ ts) d (suc i) lt = omega (arith, code_upto ts d i (omega arith)
 all_code_is : (ts : List Task) → all_code ts ≡ sum_by (λ (t : Task). length t.code) ts
 all_code_is ts = is_sum_by all_code (λ (t : Task). length t.code) refl (λ t us. refl) ts
 
-room_for : (program : Program) → IsAccepted program → (i : ℕ) → i < length program.tasks → all_code (take i program.tasks) + length (task_def program i).code ≤ 4096
+room_for : (program : Program) → IsAccepted program → (i : ℕ) → i < length program.tasks → all_code (take i program.tasks) + length (task_def program i).code ≤ limits.INSTRUCTIONS
 room_for program is i lt = omega (arith, code_upto program.tasks no_task_def i lt, all_code_is program.tasks, is.counts.code)
 
 pub short_code : (program : Program) → IsAccepted program → (i : ℕ) → i < length program.tasks → length (task_def program i).code < 2 ^ 64

@@ -6,15 +6,16 @@ use Rattle.task_lines.specs.declared.op.ThreeOp.TheVariants as threes
 use Rattle.program_text.proofs.Spelled.{instr_words}
 use Rattle.program_text.proofs.InstrsAgain.{draft_of, CanCode, with_instr, line_from, one_again, two_again, three_again, li_again, jmp_again, jz_again, jnz_again, next_again, done_again, send_again, arm_again, stop_again}
 use Rattle.program_text.proofs.OpsAgain.{ev_is, kind_is, num_is, now_is, out_is, mov_is, ld_is, st_is, add_is, sub_is, mul_is, and_is, or_is, xor_is, shl_is, shr_is, divu_is, remu_is, ltu_is, eq_is, jmp_is, jz_is, jnz_is, send_is, arm_is, stop_is, li_is, next_is, done_is}
+use Rattle.ink_base.specs.declared.limits.TheConstants as limits
 
-below : {program : Program} {d : Draft} (t : Task) (i : ℕ) → CanCode program d t → i < length t.code → i < 4096
+below : {program : Program} {d : Draft} (t : Task) (i : ℕ) → CanCode program d t → i < length t.code → i < limits.INSTRUCTIONS
 below t i can lt = omega (arith, can.short)
 
 owner : (id : ℕ) (t : Task) (task : DraftTask) → id ≡ t.thread.0 → task.thread ≡ t.thread → id ≡ task.thread.0
 owner id t task e of = e ∙ ap (λ (x : ThreadId). x.0) (sym of)
 
 -- the line of an instruction, behind others of its task
-pub instr_again : (program : Program) (d : Draft) (t : Task) (task : DraftTask) (line : ℕ) (instr : Instr) → CanCode program d t → task.thread ≡ t.thread → IsInstr instr → IsRightInstr program t instr → d.count < 4096
+pub instr_again : (program : Program) (d : Draft) (t : Task) (task : DraftTask) (line : ℕ) (instr : Instr) → CanCode program d t → task.thread ≡ t.thread → IsInstr instr → IsRightInstr program t instr → d.count < limits.INSTRUCTIONS
     → line_in (record d { current = Some task }) line (instr_words program instr) ≡ Ok (with_instr d task line (draft_of program instr))
 unfolding instr_words
 instr_again program d t task line (Li a i) can of fits right room = line_from d task line _ _ _ _ li_is room (li_again (record d { current = None }) task.thread a i fits.a_fits fits.i_fits)

@@ -27,7 +27,7 @@ priority_again threads n ws high alone = rw (field_again (codes "priority") 0 25
 expires_again : (e : Option ℕ) → ForSome e (λ d. d ≤ limits.TICKS) → expires_in (expires_words e) ≡ Ok e
 unfolding expires_in end_in
 expires_again None h = refl
-expires_again (Some d) h = let le : d ≤ limits.TICKS = h d refl in rw (field_again (codes "expires") 0 2147483647 d [] (omega arith) (omega arith) (omega arith)) refl
+expires_again (Some d) h = let le : d ≤ limits.TICKS = h d refl in rw (field_again (codes "expires") 0 limits.TICKS d [] (omega arith) (omega arith) (omega arith)) refl
 
 -- a thread
 pub thread_again : (d : Draft) (n : ℕ) (t : ThreadDef) → CanThread d.threads t
@@ -41,7 +41,7 @@ thread_again d n t can =
       priority_again d.threads t.priority _ right.priority can.alone,
       field_again (codes "queue") 2 32 t.queue _ right.queue_least right.queue (omega (arith, right.queue)),
       field_again (codes "state") 0 256 t.state _ (omega arith) right.state (omega (arith, right.state)),
-      field_again (codes "log") 1 4096 t.log _ right.log_least right.log (omega (arith, right.log)),
+      field_again (codes "log") 1 limits.LOG_PLACES t.log _ right.log_least right.log (omega (arith, right.log)),
       expires_again t.expires right.expires,
     ) refl
 
@@ -83,7 +83,7 @@ unfolding start_in word_in off_in due_in end_in
 start_again None period within lt off = let none : period ≡ 0 = off refl in ap (λ (n : ℕ). Ok (None, n)) (sym none)
 start_again (Some due) period within lt off =
     let small : due ≤ limits.TICKS = within due refl in
-    rw (field_again (codes "due") 0 2147483647 due _ (omega arith) (omega arith) (omega arith), field_again (codes "period") 0 2147483647 period [] (omega arith) (omega arith) (omega arith)) refl
+    rw (field_again (codes "due") 0 limits.TICKS due _ (omega arith) (omega arith) (omega arith), field_again (codes "period") 0 limits.TICKS period [] (omega arith) (omega arith) (omega arith)) refl
 
 -- a timer
 pub timer_again : (program : Program) (d : Draft) (t : TimerDef) → d.threads ≡ program.threads → AreApart program → IsNew timer_name 8 d.timers t → IsRightTimer program t

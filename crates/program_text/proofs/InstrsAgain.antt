@@ -17,6 +17,7 @@ use Rattle.task_lines.specs.Operands.{one_in, two_in, three_in, constant_in, tar
 use Rattle.program_text.proofs.Spelled.{register_word, label_name}
 use Rattle.program_text.proofs.WordsAgain.{number_again, register_in_again, label_is_name}
 use Rattle.program_text.proofs.NamesAgain.{declared_again}
+use Rattle.ink_base.specs.declared.limits.TheConstants as limits
 
 -- an instruction as its line gives it
 abbrev pub draft_of : Program → Instr → DraftInstr
@@ -32,7 +33,7 @@ pub record CanCode (program : Program) (d : Draft) (task : Task) : Type 0 where
   pub timers : d.timers ≡ program.timers
   pub distinct : HasDistinct program
   pub named : (x : ℕ) → x < length program.tasks → is_name (task_def program x).name ≡ true
-  pub short : length task.code ≤ 4096
+  pub short : length task.code ≤ limits.INSTRUCTIONS
 
 one_in_again : (a : ℕ) → a < 16 → one_in (register_word a ∷ []) ≡ Ok a
 unfolding one_in end_in
@@ -76,15 +77,15 @@ pub li_again : (d : Draft) (thread : ThreadId) (a i : ℕ) → a < 16 → i < 2 
 unfolding instr_in
 li_again d thread a i lt small = rw (constant_in_again a i lt small) refl
 
-pub jmp_again : (d : Draft) (thread : ThreadId) (i : ℕ) → i < 4096 → instr_in d thread (ops.Jump jumps.Jmp) (label_name i ∷ []) ≡ Ok (drafts.Jmp (label_name i))
+pub jmp_again : (d : Draft) (thread : ThreadId) (i : ℕ) → i < limits.INSTRUCTIONS → instr_in d thread (ops.Jump jumps.Jmp) (label_name i ∷ []) ≡ Ok (drafts.Jmp (label_name i))
 unfolding instr_in jump_in
 jmp_again d thread i lt = rw (target_in_again (label_name i) (label_is_name i lt)) refl
 
-pub jz_again : (d : Draft) (thread : ThreadId) (a i : ℕ) → a < 16 → i < 4096 → instr_in d thread (ops.Jump jumps.Jz) (register_word a ∷ label_name i ∷ []) ≡ Ok (drafts.Jz a (label_name i))
+pub jz_again : (d : Draft) (thread : ThreadId) (a i : ℕ) → a < 16 → i < limits.INSTRUCTIONS → instr_in d thread (ops.Jump jumps.Jz) (register_word a ∷ label_name i ∷ []) ≡ Ok (drafts.Jz a (label_name i))
 unfolding instr_in jump_in
 jz_again d thread a i small lt = rw (register_target_again a (label_name i) small (label_is_name i lt)) refl
 
-pub jnz_again : (d : Draft) (thread : ThreadId) (a i : ℕ) → a < 16 → i < 4096 → instr_in d thread (ops.Jump jumps.Jnz) (register_word a ∷ label_name i ∷ []) ≡ Ok (drafts.Jnz a (label_name i))
+pub jnz_again : (d : Draft) (thread : ThreadId) (a i : ℕ) → a < 16 → i < limits.INSTRUCTIONS → instr_in d thread (ops.Jump jumps.Jnz) (register_word a ∷ label_name i ∷ []) ≡ Ok (drafts.Jnz a (label_name i))
 unfolding instr_in jump_in
 jnz_again d thread a i small lt = rw (register_target_again a (label_name i) small (label_is_name i lt)) refl
 
@@ -133,7 +134,7 @@ pub record IsOp (w : Word) (op : Op) : Type 0 where
   pub plain : label_of w ≡ None
   pub means : op_of w ≡ Ok op
 
-pub line_from : (d : Draft) (task : DraftTask) (line : ℕ) (w : Word) (ws : List Word) (op : Op) (instr : DraftInstr) → IsOp w op → d.count < 4096 → instr_in (record d { current = None }) task.thread op ws ≡ Ok instr
+pub line_from : (d : Draft) (task : DraftTask) (line : ℕ) (w : Word) (ws : List Word) (op : Op) (instr : DraftInstr) → IsOp w op → d.count < limits.INSTRUCTIONS → instr_in (record d { current = None }) task.thread op ws ≡ Ok instr
     → line_in (record d { current = Some task }) line (w ∷ ws) ≡ Ok (with_instr d task line instr)
 unfolding line_in inside_line instr_line
-line_from d task line w ws op instr is room read = rw (is.other, is.plain, is.means, lt-ltb d.count 4096 room, read) refl
+line_from d task line w ws op instr is room read = rw (is.other, is.plain, is.means, lt-ltb d.count limits.INSTRUCTIONS room, read) refl

@@ -8,6 +8,7 @@ use Rattle.program_text.proofs.InstrsAgain.{draft_of}
 use Rattle.program_text.proofs.LabelsAgain.{labels_below, label_found}
 use Rattle.program_text.proofs.TasksAgain.{line_at, drafts_below}
 use Rattle.program_text.proofs.AllTasksAgain.{drafted, all_drafted, drafted_place}
+use Rattle.ink_base.specs.declared.limits.TheConstants as limits
 
 -- the task of each number is found by its name
 abbrev FindsTasks : Program → List DraftTask → Type 0
@@ -17,7 +18,7 @@ pub finds_tasks : (program : Program) (line : ℕ) → HasDistinct program → F
 finds_tasks program line distinct i lt =
     drafted_place program line 0 program.tasks (task_def program i).name ∙ place_again (λ (t : Task). t.name) program.tasks no_task_def i lt distinct.tasks
 
-aimed_again : (program : Program) (tasks : List DraftTask) (t : Task) (instr : Instr) → FindsTasks program tasks → length t.code ≤ 4096 → ((i : ℕ) → jumps_to i instr ≡ true → is_target t.code i ≡ true) → IsRightInstr program t instr
+aimed_again : (program : Program) (tasks : List DraftTask) (t : Task) (instr : Instr) → FindsTasks program tasks → length t.code ≤ limits.INSTRUCTIONS → ((i : ℕ) → jumps_to i instr ≡ true → is_target t.code i ≡ true) → IsRightInstr program t instr
     → aimed tasks (labels_below t.code (length t.code)) (draft_of program instr) ≡ Some instr
 aimed_again program tasks t (Jmp i) finds small there right = rw (label_found t.code (length t.code) i right (omega arith) (there i (eq-eqb i i refl))) refl
 aimed_again program tasks t (Jz a i) finds small there right = rw (label_found t.code (length t.code) i right (omega arith) (there i (eq-eqb i i refl))) refl
@@ -27,7 +28,7 @@ aimed_again program tasks t instr finds small there right = refl
 
 -- what the code of a task is whose targets are found
 pub record CanAim (program : Program) (t : Task) : Type 0 where
-  pub short : length t.code ≤ 4096
+  pub short : length t.code ≤ limits.INSTRUCTIONS
   pub right : (o : ℕ) → o < length t.code → IsRightInstr program t (instr_at t o)
 
 instr_of-again : (program : Program) (tasks : List DraftTask) (t : Task) (line o : ℕ) → FindsTasks program tasks → CanAim program t → o < length t.code

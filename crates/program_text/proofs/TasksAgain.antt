@@ -12,19 +12,20 @@ use Rattle.program_text.proofs.FormsAgain.{IsNew, AreApart}
 use Rattle.program_text.proofs.InstrsAgain.{draft_of, CanCode}
 use Rattle.program_text.proofs.CodeAgain.{instr_again}
 use Rattle.program_text.proofs.LabelsAgain.{labels_below, label_none}
+use Rattle.ink_base.specs.declared.limits.TheConstants as limits
 
 -- the draft with a task open, and so many instructions read
 abbrev pub open_at : Draft → DraftTask → ℕ → Draft
 open_at d task count = record d { current = Some task; count = count }
 
-label_again : (d : Draft) (task : DraftTask) (line o : ℕ) → o < 4096 → offset_of task.labels (label_name o) ≡ None
+label_again : (d : Draft) (task : DraftTask) (line o : ℕ) → o < limits.INSTRUCTIONS → offset_of task.labels (label_name o) ≡ None
     → line_in (open_at d task (task.before + o)) line ((label_name o ++ 58 ∷ []) ∷ []) ≡ Ok (open_at d (record task { labels = with_label task.labels (label_name o) o }) (task.before + o))
 unfolding line_in inside_line label_line fresh_of end_in
 label_again d task line o lt none =
     let at : task.before + o - task.before ≡ o = omega arith in
     rw (label_of-again (label_name o), none, label_is_name o lt, at) refl
 
-label_step : (b : Bool) (d : Draft) (task : DraftTask) (line o : ℕ) → o < 4096 → offset_of task.labels (label_name o) ≡ None
+label_step : (b : Bool) (d : Draft) (task : DraftTask) (line o : ℕ) → o < limits.INSTRUCTIONS → offset_of task.labels (label_name o) ≡ None
     → read_all (open_at d task (task.before + o)) line (label_lines b o) ≡ Ok (open_at d (record task { labels = cond b (with_label task.labels (label_name o) o) task.labels }) (task.before + o))
 unfolding read_all
 label_step true d task line o lt none = read_one (open_at d task (task.before + o)) line ((label_name o ++ 58 ∷ []) ∷ []) _ (label_again d task line o lt none)
@@ -48,7 +49,7 @@ task_below program t line before n =
 pub record CanInstrs (program : Program) (t : Task) (before : ℕ) : Type 0 where
   pub fits : (o : ℕ) → o < length t.code → IsInstr (instr_at t o)
   pub right : (o : ℕ) → o < length t.code → IsRightInstr program t (instr_at t o)
-  pub room : before + length t.code ≤ 4096
+  pub room : before + length t.code ≤ limits.INSTRUCTIONS
 
 pub same_parts : {program : Program} {d : Draft} {t : Task} (count : ℕ) → CanCode program d t → CanCode program (record d { count = count }) t
 same_parts count can = record { pipes = can.pipes; timers = can.timers; distinct = can.distinct; named = can.named; short = can.short }
@@ -59,7 +60,7 @@ instr_step : (program : Program) (d : Draft) (t : Task) (line before n : ℕ) �
 instr_step program d t line before n can code lt =
     let task = task_below program t line before n in
     let marked : DraftTask = record task { labels = labels_below t.code (suc n) } in
-    let room : before + n < 4096 = omega (arith, code.room) in
+    let room : before + n < limits.INSTRUCTIONS = omega (arith, code.room) in
     let count : before + n + 1 ≡ before + suc n = omega arith in
     read_append (open_at d task (before + n)) (open_at d marked (before + n)) (line + 1 + length (lines_below program t n)) (line_at program t line n) (label_lines (is_target t.code n) n) (instr_words program (instr_at t n) ∷ []) _
     (label_step (is_target t.code n) d task (line + 1 + length (lines_below program t n)) n (omega (arith, code.room)) (label_none t.code n n (omega arith) (omega (arith, code.room))))
@@ -84,7 +85,7 @@ pub record CanTask (program : Program) (d : Draft) (t : Task) : Type 0 where
   pub new : IsNew task_name 256 d.tasks (task_below program t 0 0 0)
   pub thread : t.thread.0 < length program.threads
   pub limit_least : 1 ≤ t.limit
-  pub limit : t.limit ≤ 4096
+  pub limit : t.limit ≤ limits.TASK_LIMIT
   pub code : CanCode program d t
   pub instrs : CanInstrs program t d.count
 
@@ -98,5 +99,5 @@ header_again program d t line can =
       fixed_again (codes "thread") _,
       can.threads,
       declared_again thread_name program.threads no_thread_def t.thread.0 _ can.thread can.apart,
-      field_again (codes "limit") 1 4096 t.limit [] can.limit_least can.limit (omega (arith, can.limit)),
+      field_again (codes "limit") 1 limits.TASK_LIMIT t.limit [] can.limit_least can.limit (omega (arith, can.limit)),
     ) refl

@@ -65,7 +65,7 @@ pub timer_worded : (program : Program) (t : TimerDef) → AreNamed program → I
 timer_worded program t named own right =
     line_from (codes "timer") (drop 1 (timer_words program t)) refl (name_word t.name own also refl also thread_name_worded program t.thread.0 named right.thread also start_worded t.due t.period right.due right.period)
 
-pub task_worded : (program : Program) (t : Task) → AreNamed program → IsNamed t.name → t.thread.0 < length program.threads → t.limit ≤ 4096 → is_line (task_words program t) ≡ true
+pub task_worded : (program : Program) (t : Task) → AreNamed program → IsNamed t.name → t.thread.0 < length program.threads → t.limit ≤ limits.TASK_LIMIT → is_line (task_words program t) ≡ true
 task_worded program t named own lt le =
     line_from (codes "task") (drop 1 (task_words program t)) refl (name_word t.name own also refl also thread_name_worded program t.thread.0 named lt also refl also decimal_word t.limit (omega arith) also tt)
 

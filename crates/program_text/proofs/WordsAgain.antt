@@ -6,6 +6,7 @@ use Rattle.ink_base.specs.Checks.{word_in, fixed_in, number_in, field_in}
 use Rattle.task_lines.specs.Operands.{register_of, register_in}
 use Rattle.program_text.proofs.Rendering.{goes_on, is_word}
 use Rattle.program_text.proofs.Spelled.{register_word, label_name}
+use Rattle.ink_base.specs.declared.limits.TheConstants as limits
 
 abbrev value_after : ℕ → Word → ℕ
 value_after a w = fold (λ n b. 10 * n + (b - 48)) a w
@@ -109,7 +110,7 @@ name_word (b ∷ w) h =
 digit_goes_on_name : (b : ℕ) → is_digit b ≡ true → goes_on_name b ≡ true
 digit_goes_on_name b h = rw h (search rules)
 
-pub label_is_name : (o : ℕ) → o < 4096 → is_name (label_name o) ≡ true
+pub label_is_name : (o : ℕ) → o < limits.INSTRUCTIONS → is_name (label_name o) ≡ true
 label_is_name o lt =
     let wide : o < 2 ^ 64 = omega arith in
     let short : length (decimal o) ≤ 4 = length-decimal-le 4 o (omega arith) (omega arith) wide in

@@ -1,4 +1,4 @@
--- `run`: the board of the job on the source is run, and the text of the run is written, with the image that it leaves where that is asked for.
+-- `run`: the board of the job is run, and the text of the run is written, with the image that it leaves where that is asked for.
 use Rattle.std.specs.Prelude.{ℕ, true, false, if◌then◌else◌, List, [], ◌++◌, codes}
 use Rattle.job_parts.specs.Job.{JobParts}
 use Rattle.kernel_core.specs.declared.run_record.RunRecord.{RunRecord}

@@ -1,4 +1,4 @@
-//! `run`: the board of the job on the source is run, and the text of the run is written, with the image that it leaves where that is asked for.
+//! `run`: the board of the job is run, and the text of the run is written, with the image that it leaves where that is asked for.
 
 ghost use Rattle.std.specs.Prelude.{◌≡◌, ◌++◌, IfOk, OnOk};
 ghost use Rattle.ink_report.specs.Conditions.{IsSupported};
