@@ -27,7 +27,7 @@ take_turns (suc n) (suc k) x rest =
     let f : suc n - suc k ≡ n - k = omega arith in
     ap (λ l. x ∷ l) (take_turns n k x rest) ∙ sym (λ i. replicate (e i) x ++ take (f i) rest)
 
-take_none : {X : Type 0} (n : ℕ) → take n [] ≡ [] {A = X}
+take_none : {X : Type 0} (n : ℕ) → take {A = X} n [] ≡ []
 take_none zero = refl
 take_none (suc n) = refl
 
