@@ -2,7 +2,7 @@
 use Rattle.std.proofs.Common.{◌≡◌, ℕ, zero, suc, ◌+◌, ◌-◌, ◌<◌, ◌≤◌, min, List, [], ◌∷◌, ◌++◌, length, take, replicate, get_or, refl, sym, ap, ◌∙◌, arith, sum_by}
 use Rattle.std.proofs.lemmas.List.{flat_map_more, take_more}
 use Rattle.std.proofs.lemmas.List.Elements.{All-cons, All-head, All-tail}
-use Rattle.std.proofs.lemmas.List.Sums.{sum_by-cons}
+use Rattle.std.proofs.lemmas.List.Sums.{sum_by-cons, sum_by_more}
 use Rattle.std.specs.List.{All, flat_map}
 use Rattle.ink_base.specs.declared.limits.TheConstants as limits
 use Rattle.job_parts.specs.Job.{JobParts, IsJob, IsOnBoard, IsRightCharge, AreCharges, item_turns, charge_turns}
@@ -126,3 +126,7 @@ items_more s b n items k lt =
     ∙ (ap (λ l. moved_by s b (flat_map turns_of l)) (first_more n (take k items) (get_or items k no_item ∷ []))
     ∙ (ap (λ l. moved_by s b l) (sym (flat_map_more turns_of [] (first_turns n (take k items)) item))
     ∙ moved_append s b (flat_map turns_of (first_turns n (take k items))) (turns_of item)))
+
+-- how many turns are left behind it
+pub left_more : (n : ℕ) (items : List Item) (k : ℕ) → k < length items → n - item_turns (take k items) - (get_or items k no_item).count ≡ n - item_turns (take (k + 1) items)
+left_more n items k lt = let more = sum_by_more (λ (x : Item). x.count) items k no_item lt in omega arith

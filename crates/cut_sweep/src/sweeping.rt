@@ -56,6 +56,8 @@ fn row_at(core: &mut Core, plan: &Plan, job: &Job, turns: u32) -> SweepRow
     ensures row { IsRowOf job.now turns result }
     ensures job { core.new.job ≡ core.old.job }
 {
+    // The job is within its limits.
+    let _charges = job.charges();
     core.begin_again();
     run_cut(core, job, turns);
     told_row(plan, core.words(), turns)
