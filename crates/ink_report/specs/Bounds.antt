@@ -2,7 +2,7 @@
 use Rattle.std.specs.Prelude.{Option, Some, None, if◌then◌else◌}
 use Rattle.task_isa.specs.declared.program.Program.{Program}
 use Rattle.never_cut.specs.Bounds.{boot_bound, round_bound}
-use Rattle.ink_report.specs.declared.bounds.ChargeBounds.{ChargeBounds}
+use Rattle.ink_report.specs.declared.charge_bounds.ChargeBounds.{ChargeBounds}
 use Rattle.ink_report.specs.declared.flags.Flags.{Flags}
 
 -- the bound of a program's boot, and that of a round

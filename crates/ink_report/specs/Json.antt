@@ -3,7 +3,7 @@ use Rattle.std.specs.Prelude.{ℕ, List, ◌++◌, Option, Some, None, map, code
 use Rattle.serde_json.specs.Data.{Data, number, unsigned, string, array, object, Members, no_members, member}
 use Rattle.serde_json.specs.View.{items_of}
 use Rattle.serde_json.specs.Written.{compact_text}
-use Rattle.ink_report.specs.declared.bounds.ChargeBounds.{ChargeBounds}
+use Rattle.ink_report.specs.declared.charge_bounds.ChargeBounds.{ChargeBounds}
 use Rattle.ink_report.specs.declared.summary.Summary.{Summary}
 use Rattle.ink_report.specs.declared.summary.ThreadSummary.{ThreadSummary}
 use Rattle.ink_report.specs.declared.summary.SourceSummary.{SourceSummary}

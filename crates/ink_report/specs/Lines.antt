@@ -3,7 +3,7 @@ use Rattle.std.specs.Prelude.{List, [], ◌++◌, ℕ, Option, Some, None, flat_
 use Rattle.ink_base.specs.declared.output.Output.{Output}
 use Rattle.task_isa.specs.declared.program.Program.{Program}
 use Rattle.prog_check.specs.Lookup.{thread_def}
-use Rattle.ink_report.specs.declared.bounds.ChargeBounds.{ChargeBounds}
+use Rattle.ink_report.specs.declared.charge_bounds.ChargeBounds.{ChargeBounds}
 use Rattle.ink_report.specs.declared.summary.Summary.{Summary}
 use Rattle.ink_report.specs.declared.summary.ThreadSummary.{ThreadSummary}
 use Rattle.ink_report.specs.declared.summary.SourceSummary.{SourceSummary}

@@ -4,7 +4,7 @@ ghost use Rattle.std.specs.Prelude.{◌≡◌, ◌++◌, map, IfOk, OnOk};
 ghost use Rattle.serde_json.specs.View.{view};
 ghost use Rattle.ink_report.specs.Json.{source_data, thread_data, summary_data, json_line};
 
-use crate::bounds::ChargeBounds;
+use crate::charge_bounds::ChargeBounds;
 use crate::summary::{SourceSummary, Summary, ThreadSummary};
 use ink_base::NoMemory;
 use serde_json::{Value, json};

@@ -4,7 +4,7 @@ ghost use Rattle.std.specs.Prelude.{◌≡◌, ◌++◌, All, flat_map, OnOk};
 ghost use Rattle.ink_report.specs.Conditions.{NamesThread};
 ghost use Rattle.ink_report.specs.Lines.{output_line, output_lines, thread_line, source_line, totals_line, summary_lines, bounds_lines};
 
-use crate::bounds::ChargeBounds;
+use crate::charge_bounds::ChargeBounds;
 use crate::names::name_of;
 use crate::summary::{SourceSummary, Summary, ThreadSummary};
 use ink_base::{NoMemory, Output};

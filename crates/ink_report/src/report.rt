@@ -5,7 +5,7 @@ ghost use Rattle.ink_report.specs.Conditions.{NamesThread, NamesPart, IsReportab
 ghost use Rattle.ink_report.specs.Report.{head, outputs_part, summary_part, header_part, entries_part};
 ghost use Rattle.ink_report.specs.Report.{run_text as text_of_run};
 
-use crate::bounds::bounds_shown;
+use crate::charge_bounds::bounds_shown;
 use crate::flags::Flags;
 use crate::journal::put_entries;
 use crate::json::put_json;
