@@ -1,13 +1,14 @@
 //! How many accesses of the kernel the parts of a charge take at most.
 
-ghost use Rattle.std.specs.Prelude.{◌≡◌, ◌<◌, length};
+ghost use Rattle.std.specs.Prelude.{◌≡◌, ◌<◌, ◌≤◌};
 ghost use Rattle.ink_layout.specs.Shape.{pages_of};
 ghost use Rattle.never_cut.specs.Bounds as never_cut;
-ghost use Rattle.prog_check.specs.Accepted.{IsAccepted};
+ghost use Rattle.prog_check.specs.Accepted.{IsAccepted, IsRightTask};
 ghost use Rattle.ink_report.specs.Bounds.{bounds_of, bounds_shown};
 
 use crate::flags::Flags;
 use fram_words::Header;
+use ink_base::limits::STATE_NUMBERS;
 use prog_check::Accepted;
 use task_isa::{Program, Task, ThreadDef};
 
@@ -70,7 +71,8 @@ fn greatest_task_bound(program: &Program) -> u32
 
 // The service of an event by a task.
 fn task_bound(program: &Program, task: &Task) -> u32
-    requires { task.now.thread.0 < length program.now.threads }
+    requires program { IsAccepted program.now }
+    requires task { IsRightTask program.now task.now }
     ensures { result ≡ never_cut.task_bound program.now task.now }
 {
     let thread = &program.threads.as_slice()[task.thread.0 as usize];
@@ -79,8 +81,9 @@ fn task_bound(program: &Program, task: &Task) -> u32
 
 // How many pages the block of a thread has.
 fn page_count(thread: &ThreadDef) -> u32
+    requires { thread.now.state ≤ STATE_NUMBERS }
     ensures number { result ≡ pages_of thread.now }
-    ensures few { result < 10000 }
+    ensures few { result < 64 }
 {
     Header::WORDS / 8 + u32::from(thread.state).div_ceil(8)
 }

@@ -3,4 +3,4 @@ use Rattle.never_cut.specs.Bounds.{greatest_of}
 use Rattle.ink_report.proofs.charge_bounds.greatest_task_bound.Given as goal
 
 abbrev pub invariant-loop-task : goal.invariant-loop-task
-invariant-loop-task l = l.greatest ≡ greatest_of l.program (take l.task-index l.task-tasks)
+invariant-loop-task l = l.greatest ≡ greatest_of l.program (take l.task-index l.task-items)
