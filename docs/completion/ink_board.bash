@@ -6,10 +6,10 @@
 # The flags that a mode takes, and without a mode those of all.
 _ink_board_flags() {
   case $1 in
-    '') echo --seed --journal --json --image ;;
-    run) echo --journal --json --image ;;
+    '') echo --seed --journal --json --bounds --image ;;
+    run) echo --journal --json --bounds --image ;;
     print | sweep) ;;
-    soak) echo --seed --journal --json ;;
+    soak) echo --seed --journal --json --bounds ;;
   esac
 }
 
@@ -51,7 +51,7 @@ _ink_board() {
       '<' | '>' | '>>' | '>|' | '<>') ((index++)) ;;
       run | print | sweep | soak) mode=${COMP_WORDS[index]} ;;
       --seed=*) used+=(--seed) ;;
-      --journal | --json | --image | --seed) used+=("${COMP_WORDS[index]}") ;;
+      --journal | --json | --bounds | --image | --seed) used+=("${COMP_WORDS[index]}") ;;
     esac
   done
 

@@ -6,7 +6,7 @@ ghost use Rattle.job_parts.specs.Job.{IsJob, first_of};
 ghost use Rattle.never_cut.specs.Journal.{after, IsLegal};
 ghost use Rattle.never_cut.specs.Replaying.{model_of};
 ghost use Rattle.never_cut.specs.Within.{HasRoom};
-ghost use Rattle.ink_report.specs.Conditions.{FitsProgram, IsSupported, NamesPart};
+ghost use Rattle.ink_report.specs.Conditions.{FitsProgram, NamesPart};
 ghost use Rattle.ink_report.specs.Report.{entries_part};
 ghost use Rattle.ink_report.specs.Summary.{summary_of};
 ghost use Rattle.ink_modes.specs.Run.{IsRunOf, run_text_of, entries_of};
@@ -21,17 +21,16 @@ use task_isa::Program;
 
 /// The text of the state after the record's journal: its outputs, the summary, and what is shown besides, as the flags say.
 pub fn report(alloc: Global, run: &RunRecord, flags: Flags) -> Result<Vec<u8>, NoMemory>
-    requires ran { IsRunOf run.now.job run.now }
-    requires supported { IsSupported flags }
+    requires { IsRunOf run.now.job run.now }
     ensures { IfOk result (λ text. text.items ≡ run_text_of run.now flags) }
 {
-    let program = run.job.accepted().program();
+    let program = run.job.accepted();
     let charges = run.charges.as_slice();
     let model = state_after(alloc, &run.job, charges)?;
     let summary = summary_after(alloc, &run.job, &model, charges)?;
     let mut out = Vec::new(alloc);
     put_head(&mut out, program, model.outputs.as_slice(), &summary, flags)?;
-    put_journal(&mut out, program, charges, flags)?;
+    put_journal(&mut out, program.program(), charges, flags)?;
     Ok(out)
 }
 

@@ -14,8 +14,8 @@ use ink_base::checks::number_said;
 use ink_report::Flags;
 
 /// What the words ask for. A command is the name of a mode and flags, in any order, each at most once: `run` may have `--journal`,
-/// `--json` and `--image`; `soak` may have the first two, and has `--seed`, whose number of 1 to 10 digits below 2^32 is the next word or
-/// stands behind a `=`; `sweep` and `print` have none. None exactly where the words are no command.
+/// `--json`, `--bounds` and `--image`; `soak` may have the first three, and has `--seed`, whose number of 1 to 10 digits below 2^32 is the
+/// next word or stands behind a `=`; `sweep` and `print` have none. None exactly where the words are no command.
 pub fn command_of(words: &[String]) -> Option<Command>
     ensures found { IfSome result (IsCommand (map string_bytes words.now)) }
     ensures exact { (command : Command) → IsCommand (map string_bytes words.now) command → result ≡ Some command }

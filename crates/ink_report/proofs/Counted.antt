@@ -1,5 +1,5 @@
 -- One entry more in a summary.
-use Rattle.ink_report.proofs.Common.{◌≡◌, ◌≢◌, ℕ, ◌+◌, ◌^◌, ◌<◌, ◌≤◌, ◌==◌, Bool, true, false, if◌then◌else◌, List, [], ◌∷◌, ◌++◌, map, length, get_or, set, count_by, refl, sym, ap, ◌∙◌, subst, arith, All, append_assoc, inl, inr, length-set, get_or-set_other, range_with_len, cases_eq, cases_lt, nat_tests, All-set, set_past, fill_by_all, get_or-map-range_with_len, length-map-range_with_len, Entry, Push, Refuse, Skip, Tick, Scan, Look, Commit, Release, Program, Model, source_of, Summary, is_push, is_refusal, source_summary, summary_of, HasRoom, HasRoomFor}
+use Rattle.ink_report.proofs.Common.{◌≡◌, ◌≢◌, ℕ, ◌+◌, ◌^◌, ◌<◌, ◌≤◌, ◌==◌, Bool, true, false, if◌then◌else◌, List, [], ◌∷◌, ◌++◌, map, length, get_or, set, refl, sym, ap, ◌∙◌, subst, arith, All, append_assoc, inl, inr, length-set, get_or-set_other, range_with_len, cases_eq, cases_lt, nat_tests, All-set, set_past, fill_by_all, get_or-map-range_with_len, length-map-range_with_len, Entry, Push, Refuse, Skip, Tick, Scan, Look, Commit, Release, Program, Model, source_of, Summary, is_push, is_refusal, source_summary, summary_of, HasRoomFor}
 use Rattle.std.proofs.lemmas.List.Sums.{sum_by_push, count_by-le-length}
 use Rattle.std.proofs.lemmas.Grind.{get_or-set_at}
 use Rattle.ink_report.specs.declared.summary.SourceSummary.{SourceSummary}

@@ -1,5 +1,5 @@
 -- The state after a legal journal can be reported.
-use Rattle.ink_report.proofs.Common.{◌≡◌, ℕ, zero, suc, ◌+◌, ◌<◌, Bool, true, false, if◌then◌else◌, List, [], ◌∷◌, length, Option, Some, None, ◌∙◌, arith, slice_index_or, length-set, length-map, All-nil, All-append, Entry, Push, Refuse, Skip, Tick, Scan, Look, Commit, Release, Program, Model, thread_of, source_of, is_running, open_model, open_thread, open_source}
+use Rattle.ink_report.proofs.Common.{ℕ, zero, suc, ◌+◌, ◌<◌, Bool, true, false, if◌then◌else◌, List, [], ◌∷◌, length, Option, Some, None, ◌∙◌, arith, slice_index_or, length-set, length-map, All-nil, All-append, Entry, Push, Refuse, Skip, Tick, Scan, Look, Commit, Release, Program, Model, thread_of, source_of, is_running, open_model, open_thread, open_source}
 use Rattle.ink_base.specs.declared.event.Event.{Event}
 use Rattle.ink_base.specs.declared.output.Output.{Output}
 use Rattle.task_isa.specs.declared.task_end.TaskEnd.{TaskEnd}

@@ -11,10 +11,6 @@ use Rattle.ink_report.specs.declared.flags.Flags.{Flags}
 abbrev pub no_flags : Flags
 no_flags = record { journal = false; json = false; bounds = false; image = false; seed = None }
 
--- the bounds of a charge aren't asked for
-abbrev pub IsSupported : Flags → Type 0
-IsSupported flags = flags.bounds ≡ false
-
 -- an entry names a source or a thread of the program, or neither
 abbrev pub NamesPart : Program → Entry → Type 0
 NamesPart program (Push source) = source.0 < length program.sources

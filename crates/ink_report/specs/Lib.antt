@@ -1,3 +1,4 @@
+pub mod Bounds
 pub mod Summary
 pub mod Lines
 pub mod Journal

@@ -1,8 +1,9 @@
 -- The lines of a text, as bytes.
-use Rattle.std.specs.Prelude.{List, ◌++◌, ℕ, flat_map, codes, decimal}
+use Rattle.std.specs.Prelude.{List, [], ◌++◌, ℕ, Option, Some, None, flat_map, codes, decimal}
 use Rattle.ink_base.specs.declared.output.Output.{Output}
 use Rattle.task_isa.specs.declared.program.Program.{Program}
 use Rattle.prog_check.specs.Lookup.{thread_def}
+use Rattle.ink_report.specs.declared.charge_bounds.ChargeBounds.{ChargeBounds}
 use Rattle.ink_report.specs.declared.summary.Summary.{Summary}
 use Rattle.ink_report.specs.declared.summary.ThreadSummary.{ThreadSummary}
 use Rattle.ink_report.specs.declared.summary.SourceSummary.{SourceSummary}
@@ -35,3 +36,12 @@ totals_line s = codes "clock " ++ decimal s.clock ++ codes " commits " ++ decima
 -- a line for each thread, one for each source, and the totals
 abbrev pub summary_lines : Summary → List ℕ
 summary_lines s = flat_map thread_line s.threads ++ flat_map source_line s.sources ++ totals_line s
+
+-- bounds boot B round R
+abbrev pub bounds_line : ChargeBounds → List ℕ
+bounds_line b = codes "bounds boot " ++ decimal b.boot ++ codes " round " ++ decimal b.round ++ codes "\n"
+
+-- the line of the bounds, where they are shown
+abbrev pub bounds_lines : Option ChargeBounds → List ℕ
+bounds_lines None = []
+bounds_lines (Some b) = bounds_line b

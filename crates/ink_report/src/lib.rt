@@ -1,6 +1,7 @@
 //! The text that a board prints of a run.
 #![tactic(auto)]
 
+mod charge_bounds;
 mod flags;
 mod journal;
 mod json;
@@ -10,6 +11,7 @@ mod report;
 mod summary;
 mod sweep;
 
+pub use charge_bounds::{ChargeBounds, bounds};
 pub use flags::Flags;
 pub use journal::put_entries;
 pub use json::put_json;

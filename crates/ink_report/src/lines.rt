@@ -2,8 +2,9 @@
 
 ghost use Rattle.std.specs.Prelude.{◌≡◌, ◌++◌, All, flat_map, OnOk};
 ghost use Rattle.ink_report.specs.Conditions.{NamesThread};
-ghost use Rattle.ink_report.specs.Lines.{output_line, output_lines, thread_line, source_line, totals_line, summary_lines};
+ghost use Rattle.ink_report.specs.Lines.{output_line, output_lines, thread_line, source_line, totals_line, summary_lines, bounds_line, bounds_lines};
 
+use crate::charge_bounds::ChargeBounds;
 use crate::names::name_of;
 use crate::summary::{SourceSummary, Summary, ThreadSummary};
 use ink_base::{NoMemory, Output};
@@ -89,6 +90,25 @@ fn put_totals(out: &mut Vec<u8>, summary: &Summary) -> Result<(), NoMemory>
     put_count(out, b"clock ", summary.clock)?;
     put_count(out, b" commits ", summary.commits)?;
     put_count(out, b" charges ", u64::from(summary.charges))?;
+    out.push(b'\n')?;
+    Ok(())
+}
+
+// Appends the line of the bounds of a charge, where they are given.
+pub fn put_bounds(out: &mut Vec<u8>, bounds: Option<ChargeBounds>) -> Result<(), NoMemory>
+    ensures { OnOk result (out.new.items ≡ out.old.items ++ bounds_lines bounds) }
+{
+    match bounds {
+        None => Ok(()),
+        Some(bounds) => put_bounds_line(out, bounds),
+    }
+}
+
+fn put_bounds_line(out: &mut Vec<u8>, bounds: ChargeBounds) -> Result<(), NoMemory>
+    ensures { OnOk result (out.new.items ≡ out.old.items ++ bounds_line bounds) }
+{
+    put_count(out, b"bounds boot ", bounds.boot)?;
+    put_count(out, b" round ", bounds.round)?;
     out.push(b'\n')?;
     Ok(())
 }

@@ -1,7 +1,6 @@
 //! Runs that were made by hand, and their texts.
 
 ghost use Rattle.std.specs.Prelude.{◌≡◌, [], length, IfOk};
-ghost use Rattle.ink_report.specs.Conditions.{IsSupported};
 
 use ink_base::{Entry, NoMemory, Output, SourceId, ThreadId};
 use ink_report::{Flags, run_text};
@@ -16,15 +15,21 @@ fn name(alloc: Global) -> Result<Name, NoMemory> {
 }
 
 // The flags of a text without bounds and image.
-pub(crate) fn flags(journal: bool, json: bool, seed: Option<u32>) -> Flags
-    ensures { IsSupported result }
-{
+pub(crate) fn flags(journal: bool, json: bool, seed: Option<u32>) -> Flags {
     Flags {
         journal,
         json,
         bounds: false,
         image: false,
         seed,
+    }
+}
+
+// The flags of a text with bounds.
+pub(crate) fn with_bounds(journal: bool, json: bool) -> Flags {
+    Flags {
+        bounds: true,
+        ..flags(journal, json, None)
     }
 }
 
@@ -129,7 +134,6 @@ fn model(
 
 // The text after one reading, which was pushed and served.
 fn served_text(alloc: Global, program: &Accepted, flags: Flags) -> Result<Vec<u8>, NoMemory>
-    requires supported { IsSupported flags }
     requires threads { length program.now.threads ≡ 1 }
     requires sources { length program.now.sources ≡ 1 }
 {
@@ -156,7 +160,6 @@ fn served_text(alloc: Global, program: &Accepted, flags: Flags) -> Result<Vec<u8
 
 // The text after a reading that was refused and given up.
 fn refused_text(alloc: Global, program: &Accepted, flags: Flags) -> Result<Vec<u8>, NoMemory>
-    requires supported { IsSupported flags }
     requires threads { length program.now.threads ≡ 1 }
     requires sources { length program.now.sources ≡ 1 }
 {
@@ -178,7 +181,6 @@ fn refused_text(alloc: Global, program: &Accepted, flags: Flags) -> Result<Vec<u
 
 // The text after the second of two sources pushed a reading.
 fn two_sources_text(alloc: Global, program: &Accepted, flags: Flags) -> Result<Vec<u8>, NoMemory>
-    requires supported { IsSupported flags }
     requires threads { length program.now.threads ≡ 1 }
     requires sources { length program.now.sources ≡ 2 }
 {
@@ -198,9 +200,12 @@ pub(crate) enum Run {
 }
 
 // The text of a run of a program that has one thread and as many sources as the run wants; nothing of another program.
-fn text_for(alloc: Global, program: &Accepted, run: Run, flags: Flags) -> Result<Vec<u8>, NoMemory>
-    requires { IsSupported flags }
-{
+fn text_for(
+    alloc: Global,
+    program: &Accepted,
+    run: Run,
+    flags: Flags,
+) -> Result<Vec<u8>, NoMemory> {
     let parts = program.program();
     match (run, parts.threads.len(), parts.sources.len()) {
         (Run::Served, 1, 1) => served_text(alloc, program, flags),
@@ -210,9 +215,7 @@ fn text_for(alloc: Global, program: &Accepted, run: Run, flags: Flags) -> Result
     }
 }
 
-fn text_of(alloc: Global, run: Run, flags: Flags) -> Result<Vec<u8>, NoMemory>
-    requires { IsSupported flags }
-{
+fn text_of(alloc: Global, run: Run, flags: Flags) -> Result<Vec<u8>, NoMemory> {
     let sources = [ThreadId(0); 2];
     let count = match run {
         Run::TwoSources => 2,
@@ -224,9 +227,12 @@ fn text_of(alloc: Global, run: Run, flags: Flags) -> Result<Vec<u8>, NoMemory>
     }
 }
 
-pub(crate) fn is_told(alloc: Global, run: Run, flags: Flags, text: &str) -> Result<bool, NoMemory>
-    requires { IsSupported flags }
-{
+pub(crate) fn is_told(
+    alloc: Global,
+    run: Run,
+    flags: Flags,
+    text: &str,
+) -> Result<bool, NoMemory> {
     let told = text_of(alloc, run, flags)?;
     Ok(told.as_slice() == text.as_bytes())
 }

@@ -1,6 +1,6 @@
 //! The texts of runs that were made by hand, in words and as JSON.
 
-use crate::reported::{Run, flags, is_told};
+use crate::reported::{Run, flags, is_told, with_bounds};
 use std::test::Fail;
 
 const SERVED: &str =
@@ -73,5 +73,22 @@ fn a_generated_job_with_json_and_journal(rt: HostRuntime) -> Result<(), Fail> {
     let text =
         "{\"charges\":1,\"clock\":0,\"commits\":1,\"sources\":[{\"next\":1,\"pushed\":1,\"refused\":0}],\"threads\":[{\"expired\":0,\"held\":0,\"name\":\"a\",\"served\":1,\"trapped\":0}]}\n[journal]\nPush S0\nScan\nCommit a\nRelease a\n";
     assert!(rt; is_told(rt.alloc(), Run::Served, flags(true, true, Some(5)), text)?);
+    Ok(())
+}
+
+// A boot of one thread takes 6 accesses at most; a round 7 for the scan, 32 for each of 7 pages, 6 for each of 100 instructions, and 18.
+#[test]
+fn the_bounds_follow_the_summary(rt: HostRuntime) -> Result<(), Fail> {
+    let text =
+        "1 a 7\nthread a served 1 trapped 0 expired 0 held 0\nsource S0 next 1 pushed 1 refused 0\nclock 0 commits 1 charges 1\nbounds boot 6 round 849\n[journal]\nPush S0\nScan\nCommit a\nRelease a\n";
+    assert!(rt; is_told(rt.alloc(), Run::Served, with_bounds(true, false), text)?);
+    Ok(())
+}
+
+#[test]
+fn the_bounds_are_json(rt: HostRuntime) -> Result<(), Fail> {
+    let text =
+        "1 a 7\n{\"boot\":6,\"charges\":1,\"clock\":0,\"commits\":1,\"round\":849,\"sources\":[{\"next\":1,\"pushed\":1,\"refused\":0}],\"threads\":[{\"expired\":0,\"held\":0,\"name\":\"a\",\"served\":1,\"trapped\":0}]}\n";
+    assert!(rt; is_told(rt.alloc(), Run::Served, with_bounds(false, true), text)?);
     Ok(())
 }

@@ -1,7 +1,9 @@
 """What the words of a board tell, in today's form or in the earlier one."""
 
+import json
 from typing import NamedTuple
 
+from plain import bounds
 from plain.access import LOW
 from plain.words import EARLIER, EXPIRED, FINISHED, OUTPUTS, SERVED, STAMP, TODAY, TRAPPED, Places
 
@@ -74,19 +76,36 @@ class Told:
         return max(self.head(thread, STAMP) for thread in self.threads)
 
 
-def run_text(board, charges, flags):
-    """What `run` writes of a board after its last charge."""
+def account_of(board, charges, flags):
+    """What a text tells of a run besides its outputs."""
     told, program, entries = Told(board.program, board.words), board.program, board.entries
-    lines = [f"{stamp} {program.threads[thread].name} {value}" for stamp, thread, value in told.outputs()]
+    account = {"charges": charges, "clock": board.words[told.places.clock], "commits": told.commits(), "threads": [], "sources": []}
     for number, thread in enumerate(program.threads):
         served, trapped, expired = (told.head(number, word) for word in (SERVED, TRAPPED, EXPIRED))
-        lines.append(f"thread {thread.name} served {served} trapped {trapped} expired {expired} held {len(told.held(number))}")
+        account["threads"].append({"name": thread.name, "served": served, "trapped": trapped, "expired": expired, "held": len(told.held(number))})
     for number in told.sources:
         pushed, refused = entries.count(f"Push S{number}"), entries.count(f"Refuse S{number}")
-        lines.append(f"source S{number} next {told.source(number).next} pushed {pushed} refused {refused}")
-    lines.append(f"clock {board.words[told.places.clock]} commits {told.commits()} charges {charges}")
+        account["sources"].append({"next": told.source(number).next, "pushed": pushed, "refused": refused})
+    if "--bounds" in flags:
+        account |= {"boot": bounds.boot(program), "round": bounds.a_round(program)}
+    return account
+
+
+def lines_of(account):
+    lines = ["thread {name} served {served} trapped {trapped} expired {expired} held {held}".format(**it) for it in account["threads"]]
+    lines += ["source S{0} next {next} pushed {pushed} refused {refused}".format(number, **it) for number, it in enumerate(account["sources"])]
+    lines.append("clock {clock} commits {commits} charges {charges}".format(**account))
+    return lines + (["bounds boot {boot} round {round}".format(**account)] if "boot" in account else [])
+
+
+def run_text(board, charges, flags):
+    """What `run` writes of a board after its last charge."""
+    outputs, threads = Told(board.program, board.words).outputs(), board.program.threads
+    lines = [f"{stamp} {threads[thread].name} {value}" for stamp, thread, value in outputs]
+    account = account_of(board, charges, flags)
+    lines += [json.dumps(account, separators=(",", ":"), sort_keys=True)] if "--json" in flags else lines_of(account)
     if "--journal" in flags:
-        lines += ["[journal]", *entries]
+        lines += ["[journal]", *board.entries]
     text = "".join(f"{line}\n" for line in lines)
     return text + image_text(board.words) if "--image" in flags else text
 

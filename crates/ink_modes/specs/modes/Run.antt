@@ -24,11 +24,11 @@ abbrev pub text : Flags → Record → List ℕ
 text flags (Run r) = run_text_of r flags ++ image_part r flags
 text flags _ = []
 
--- it may show the journal, JSON and the image
+-- it may show the journal, JSON, the bounds of a charge and the image
 abbrev pub run : ModeForm
 run = record {
   word = codes "run";
-  allowed = record { journal = true; json = true; bounds = false; image = true; seed = false };
+  allowed = record { journal = true; json = true; bounds = true; image = true; seed = false };
   gives = IsJobOf;
   makes = Makes;
   text = text;

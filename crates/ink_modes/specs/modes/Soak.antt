@@ -4,11 +4,11 @@ use Rattle.ink_image.specs.Whole.{IsJobOf}
 use Rattle.ink_modes.specs.Form.{ModeForm}
 use Rattle.ink_modes.specs.modes.Run.{Makes, text}
 
--- it has a seed, and may show the journal, and JSON
+-- it has a seed, and may show the journal, JSON and the bounds of a charge
 abbrev pub soak : ModeForm
 soak = record {
   word = codes "soak";
-  allowed = record { journal = true; json = true; bounds = false; image = false; seed = true };
+  allowed = record { journal = true; json = true; bounds = true; image = false; seed = true };
   gives = IsJobOf;
   makes = Makes;
   text = text;

@@ -1,7 +1,6 @@
 //! `run`: the board of the job is run, and the text of the run is written, with the image that it leaves where that is asked for.
 
 ghost use Rattle.std.specs.Prelude.{◌≡◌, ◌++◌, IfOk, OnOk};
-ghost use Rattle.ink_report.specs.Conditions.{IsSupported};
 ghost use Rattle.ink_modes.specs.Run.{IsRunOf};
 ghost use Rattle.ink_modes.specs.modes.Run.{Makes, image_part, text};
 
@@ -16,17 +15,17 @@ use kernel_core::{RunRecord, prepare};
 use power_trace::Job;
 use std::alloc::Global;
 
-/// It may show the journal, JSON and the image.
+/// It may show the journal, JSON, the bounds of a charge and the image.
 pub const ALLOWED: Allowed = Allowed {
     journal: true,
     json: true,
+    bounds: true,
     image: true,
     ..Allowed::NONE
 };
 
 /// The record of the whole run of a job, and its text.
 pub fn make(alloc: Global, flags: Flags, job: Job) -> Result<Made, NoMemory>
-    requires { IsSupported flags }
     ensures record { IfOk result (λ made. Makes job made.record) }
     ensures text { IfOk result (λ made. made.text.items ≡ text flags made.record) }
 {

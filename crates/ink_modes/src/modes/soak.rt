@@ -3,10 +3,11 @@
 use crate::command::Allowed;
 pub use crate::modes::run::make;
 
-/// It has a seed, and may show the journal, and JSON.
+/// It has a seed, and may show the journal, JSON and the bounds of a charge.
 pub const ALLOWED: Allowed = Allowed {
     journal: true,
     json: true,
+    bounds: true,
     seed: true,
     ..Allowed::NONE
 };

@@ -10,8 +10,7 @@ count-requires c =
 
 pub returns : goal.returns
 returns c =
-    let program = c.program-program.ensures.same in
     let told : c.count.new.self ≡ summary_of c.args.program.now c.args.model.now c.args.entries.now c.args.charges =
     c.count.ensures c.args.program.now c.args.model.now [] c.args.charges c.in_ok-summary.ensures in
-    let headed = c.in_ok-put_head.ensures ∙ (λ i. c.new-out.ensures.items i ++ head (program i) (c.as_slice.ensures i) (told i) c.args.flags) in
-    c.in_ok-put_entries_part.ensures ∙ (λ i. headed i ++ entries_part (program i) c.args.entries.now c.args.flags)
+    let headed = c.in_ok-put_head.ensures ∙ (λ i. c.new-out.ensures.items i ++ head c.args.program.now (c.as_slice.ensures i) (told i) c.args.flags) in
+    c.in_ok-put_entries_part.ensures ∙ (λ i. headed i ++ entries_part (c.program.ensures.same i) c.args.entries.now c.args.flags)
