@@ -37,3 +37,4 @@ pub mod Alone
 pub mod CleanPages
 pub mod LeftFalls
 pub mod Bounded
+pub mod Opens
