@@ -1,7 +1,6 @@
 -- Answered scans stay so while entries are added, and each round adds one.
-use Rattle.kernel_core.proofs.Common.{◌≡◌, ◌≢◌, ◌⊎◌, inl, inr, ℕ, ◌+◌, ◌<◌, ◌≤◌, Bool, true, false, List, [], ◌∷◌, ◌++◌, length, take, Option, Some, None, refl, sym, ap, ◌∙◌, subst, arith, take_all, length-append, cases_eq, cases_lt, eq-eqb, ne_eqb, ◌==◌, if◌then◌else◌, ThreadId, Entry, Model, ScanModel, pending, after, moved, noted, effect, Setup}
+use Rattle.kernel_core.proofs.Common.{◌≡◌, ◌≢◌, ◌⊎◌, inl, inr, ℕ, ◌+◌, ◌<◌, ◌≤◌, true, false, List, [], ◌∷◌, ◌++◌, length, Option, Some, None, refl, sym, ap, ◌∙◌, subst, arith, take_all, length-append, cases_eq, cases_lt, eq-eqb, ne_eqb, ◌==◌, if◌then◌else◌, ThreadId, Entry, Model, ScanModel, pending, after, noted, Setup}
 use Rattle.std.proofs.lemmas.List.{take-append-le}
-use Rattle.std.proofs.lemmas.Bool.{cases_Bool}
 use Rattle.ink_base.specs.declared.entry.Entry.TheVariants as entries
 use Rattle.never_cut.specs.State.{is_looked}
 use Rattle.kernel_core.specs.Scanned.{entry_at}

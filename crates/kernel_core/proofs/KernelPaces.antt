@@ -1,13 +1,12 @@
 -- A scan that ends and a service keep to the bound, and so does every access of the kernel.
-use Rattle.kernel_core.proofs.Common.{◌≡◌, ◌≢◌, ◌⊎◌, inl, inr, ℕ, zero, suc, ◌+◌, ◌*◌, ◌<◌, ◌≤◌, Bool, true, false, List, [], ◌∷◌, ◌++◌, length, get_or, Option, Some, None, refl, sym, ap, ◌∙◌, subst, arith, if◌then◌else◌, ThreadId, Entry, Memory, perform, answer, entry_of_point, Program, IsAccepted, task_def, Model, ScanModel, thread_of, pending, committed, commit, after, moved, noted, after-noted, MayNote, IsSound, Background, IsKept, Lasts, IsPicked, boot_stamp, scan_result, scan_wants, scan_takes, scan_point, Phase, TaskMachine, is_over, Knows, KnowsAt, every_task_fits, Kernel, Boot, Scan, Task, wants, takes, point_found, after_scan, after_task, begin_scan, point_at, Setup, IsSetup, KernelHolds}
+use Rattle.kernel_core.proofs.Common.{◌≡◌, inl, inr, ℕ, zero, suc, ◌+◌, ◌<◌, ◌≤◌, Bool, true, false, List, [], ◌∷◌, ◌++◌, length, get_or, Option, Some, None, refl, sym, ap, ◌∙◌, subst, arith, if◌then◌else◌, Entry, Memory, perform, answer, entry_of_point, Program, IsAccepted, task_def, Model, ScanModel, thread_of, pending, committed, commit, after, moved, noted, after-noted, MayNote, IsSound, Background, Lasts, scan_result, scan_wants, scan_takes, scan_point, Phase, TaskMachine, is_over, Knows, KnowsAt, every_task_fits, Kernel, Boot, Scan, Task, wants, takes, point_found, after_scan, after_task, begin_scan, point_at, Setup, IsSetup, KernelHolds}
 use Rattle.std.proofs.Common.{IsSome}
 use Rattle.std.specs.Option.{ForSome}
 use Rattle.std.proofs.lemmas.Bool.{false≢true}
 use Rattle.ink_base.specs.declared.entry.Entry.TheVariants as entries
 use Rattle.ink_base.specs.declared.event.Event.{Event}
 use Rattle.ink_base.specs.declared.ids.TaskId.{TaskId}
-use Rattle.ink_layout.specs.declared.pick.Pick.{Pick}
-use Rattle.never_cut.specs.Bounds.{boot_bound, round_bound, scan_bound, task_bound, greatest_of}
+use Rattle.never_cut.specs.Bounds.{task_bound, greatest_of}
 use Rattle.never_cut.specs.Entries.{ArePassed, IsCalm, Legal}
 use Rattle.never_cut.specs.Ranges.{IsTaskOf}
 use Rattle.priority_sched.specs.Knows.{ScanHolds}
@@ -18,7 +17,6 @@ use Rattle.priority_sched.specs.declared.scanned.Scanned.TheVariants as scanned
 use Rattle.priority_sched.proofs.Scans.{scan_keeps}
 use Rattle.priority_sched.proofs.Ends.{scan_ends}
 use Rattle.task_isa.specs.declared.program.Task as declared
-use Rattle.prog_check.specs.Lookup.{first_task}
 use Rattle.task_run.specs.declared.phase.Phase.TheVariants as phase
 use Rattle.task_run.specs.Bounded.{task_of, task_by}
 use Rattle.task_run.specs.Machine as tasks
@@ -27,10 +25,9 @@ use Rattle.task_run.proofs.Bounded.{left_begins}
 use Rattle.task_run.proofs.LeftFalls.{left_falls}
 use Rattle.task_run.proofs.Opens.{IsLate, IsOpen, stays_open}
 use Rattle.kernel_core.specs.Kernel as kernels
-use Rattle.kernel_core.specs.Answered.{HasAnswered}
 use Rattle.kernel_core.proofs.KernelTurns.{noted_sound}
 use Rattle.kernel_core.proofs.Charges.{noted-behind}
-use Rattle.kernel_core.proofs.Answers.{Waits, commit_answers, quiet_answers, answers_stay}
+use Rattle.kernel_core.proofs.Answers.{commit_answers, quiet_answers}
 use Rattle.kernel_core.proofs.Paces.{service_most, Rests, Waiting, Paced, ScanPaced, TaskPaced, Rowed, rests_on, waiting_on, boot_paces, scan_row}
 
 -- the bound of each task is at most the greatest
@@ -96,8 +93,7 @@ module _ (s : Setup) (before es : List Entry) (words : Memory) (m : Model) (g : 
           let known : task_of s.program pick < length s.program.tasks = task_known s.program pick.thread.0 pick.running g.accepted picked.known chain in
           let most : task_bound s.program (task_def s.program (task_of s.program pick)) ≤ service_most s.program = most_of s.program s.program.tasks (task_of s.program pick) _ known in
           let begins : left_most s.program (tasks.begin pick stamp) ≤ task_bound s.program (task_def s.program (task_of s.program pick)) =
-          left_begins s.program pick stamp g.accepted picked.known chain in
-          (
+          left_begins s.program pick stamp g.accepted picked.known chain in (
             (let low : 0 < 8 = omega arith in low),
             inl (picked.scan, picked.scanned, record { answered = w.answered; at = w.at; waits = w.waits; within = omega arith }),
           )

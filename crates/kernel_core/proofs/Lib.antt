@@ -32,4 +32,5 @@ pub mod RunRecords
 pub mod Answers
 pub mod Paces
 pub mod KernelPaces
+pub mod PacedCharges
 pub mod Paced

@@ -1,37 +1,18 @@
 -- Each access of the kernel keeps to the bound: what was made in the charge and what is left at most, against the boot and the rounds that its scans allow.
-use Rattle.kernel_core.proofs.Common.{◌≡◌, ◌≢◌, ◌⊎◌, inl, inr, ℕ, ◌+◌, ◌*◌, ◌<◌, ◌≤◌, Bool, true, false, List, [], ◌∷◌, ◌++◌, length, Option, Some, None, refl, sym, ap, ◌∙◌, subst, arith, if◌then◌else◌, ThreadId, Event, Entry, Memory, answer, slot_in, entry_of_point, Program, task_def, Model, ScanModel, thread_of, pending, committed, commit, effect, after, moved, noted, after-noted, MayNote, IsSound, Background, IsKept, Lasts, Follows, IsPicked, boot_stamp, boot_wants, boot_takes, boot_point, BootHolds, BootMachine, scan_result, scan_wants, scan_takes, scan_point, look_point, event_at, ScanAt, Phase, TaskMachine, is_over, Knows, every_task_fits, Kernel, Boot, Scan, Task, after_boot, after_scan, after_task, begin_scan, booted, Setup, IsSetup}
-use Rattle.std.specs.Option.{ForSome}
-use Rattle.std.proofs.lemmas.Bool.{cases_Bool, false≢true}
+use Rattle.kernel_core.proofs.Common.{◌≡◌, ◌≢◌, ◌⊎◌, inl, inr, ℕ, ◌+◌, ◌*◌, ◌<◌, ◌≤◌, true, List, [], length, Option, Some, None, refl, sym, subst, arith, ThreadId, Event, Entry, Memory, answer, slot_in, entry_of_point, Program, Model, ScanModel, moved, noted, Background, boot_stamp, boot_wants, boot_takes, boot_point, BootHolds, BootMachine, scan_result, scan_takes, scan_point, look_point, event_at, ScanAt, Kernel, Boot, Scan, Task, after_boot, booted, Setup}
+use Rattle.std.proofs.lemmas.Bool.{false≢true}
 use Rattle.ink_base.specs.declared.entry.Entry.TheVariants as entries
-use Rattle.ink_base.specs.declared.ids.TaskId.{TaskId}
-use Rattle.never_cut.specs.Bounds.{boot_bound, round_bound, task_bound, greatest_of}
-use Rattle.never_cut.specs.Entries.{IsCalm, InScan, ArePassed}
-use Rattle.never_cut.specs.Ranges.{IsTaskOf}
+use Rattle.never_cut.specs.Bounds.{boot_bound, round_bound, greatest_of}
 use Rattle.never_cut.specs.State.{is_looked}
 use Rattle.reboot.specs.kept.LeftMost.{boot_left}
-use Rattle.reboot.proofs.LeftFalls.{boot_falls, boot_left-follows}
-use Rattle.priority_sched.specs.Knows.{ScanHolds}
-use Rattle.priority_sched.specs.Laws as scans
+use Rattle.reboot.proofs.LeftFalls.{boot_falls}
 use Rattle.priority_sched.specs.kept.LeftMost.{left_at, scan_left}
 use Rattle.priority_sched.specs.declared.machine.ScanMachine.{ScanMachine}
 use Rattle.priority_sched.specs.declared.scan_at.ScanAt.TheVariants as scan
-use Rattle.priority_sched.specs.declared.scanned.Scanned.{Scanned}
-use Rattle.priority_sched.specs.declared.scanned.Scanned.TheVariants as scanned
 use Rattle.priority_sched.proofs.LeftFalls.{scan_falls}
-use Rattle.priority_sched.proofs.Scans.{scan_keeps}
-use Rattle.priority_sched.proofs.Ends.{scan_ends}
-use Rattle.task_run.specs.declared.phase.Phase.TheVariants as phase
-use Rattle.task_run.specs.Bounded.{task_of, task_by}
-use Rattle.task_run.specs.Machine as tasks
 use Rattle.task_run.specs.kept.LeftMost.{IsInPage, left_most}
-use Rattle.task_run.proofs.Acts.{first_own}
-use Rattle.task_run.proofs.Bounded.{left_begins}
-use Rattle.task_run.proofs.LeftFalls.{left_falls}
-use Rattle.task_run.proofs.Opens.{IsLate, stays_open}
-use Rattle.kernel_core.specs.Kernel as kernels
-use Rattle.kernel_core.specs.Answered.{HasAnswered, HasLook}
-use Rattle.kernel_core.proofs.Charges.{noted-behind}
-use Rattle.kernel_core.proofs.Answers.{none_answered, answers_stay, Waits, waits_begin, waits_stay, commit_answers, quiet_answers, AreNoted, looks_stay, looks_more}
+use Rattle.kernel_core.specs.Answered.{HasAnswered}
+use Rattle.kernel_core.proofs.Answers.{answers_stay, Waits, waits_begin, waits_stay, AreNoted, looks_more}
 
 -- the greatest bound of a service
 abbrev pub service_most : Program → ℕ
