@@ -34,3 +34,7 @@ pub mod Traps
 pub mod Words
 pub mod TaskWords
 pub mod Alone
+pub mod CleanPages
+pub mod LeftFalls
+pub mod Bounded
+pub mod Opens

@@ -1,5 +1,6 @@
 //! What a task leaves on a board.
 
+ghost use Rattle.task_run.specs.Bounded.{EveryServiceEnds};
 ghost use Rattle.task_run.specs.Knows.{EveryTaskCommits, EveryTaskOutlasts, EveryTaskFits, EveryPickBegins};
 
 /// The law of the machine that serves a pick, for every accepted program, on words that stand for a state of the never-cut kernel.
@@ -12,4 +13,11 @@ pub fn tasks_commit()
     ensures commits { EveryTaskCommits }
     ensures outlasts { EveryTaskOutlasts }
     ensures fits { EveryTaskFits }
+{}
+
+/// How long a service takes at most, for every accepted program and whatever words it finds, each in the range of its place: two copies
+/// of the pages of the thread's block, six accesses for each instruction that the task's limit allows, the event's words twice, and the
+/// end, the commit and the release.
+pub fn services_end()
+    ensures ends { EveryServiceEnds }
 {}
