@@ -12,5 +12,6 @@ pub mod Listed
 pub mod Made
 pub mod Scanned
 pub mod Settling
+pub mod Settled
 pub mod RunRecords
 pub mod kept
