@@ -1,5 +1,5 @@
 -- What a source's access makes of its pace and of the others'.
-use Rattle.kernel_core.proofs.Common.{◌≡◌, ℕ, ◌+◌, ◌-◌, ◌<◌, ◌≤◌, Bool, List, length, set, get_or, slice_index, Option, sym, ap, ◌∙◌, subst, inl, inr, arith, cases_lt, get_or-set_same, get_or-set_other, get_or_past, length-set, Entry, Tail, Memory, performs, place_of, source_thread, Row, Point, first_row, take_of, point_of, access, port_of, places_for, Adds, Model, readings_of, ChargeRecord, charge_of, with_source, Setup, Board, sides, finds, source_access, source_made, entry_of_source, row_of, sides_of, IsSetup, memory, state, Holds}
+use Rattle.kernel_core.proofs.Common.{◌≡◌, ℕ, ◌+◌, ◌-◌, ◌<◌, ◌≤◌, Bool, List, length, set, slice_index, sym, ap, ◌∙◌, subst, inl, inr, arith, cases_lt, get_or-set_same, get_or-set_other, get_or_past, length-set, Entry, Tail, Memory, performs, place_of, source_thread, Row, Point, first_row, take_of, point_of, access, port_of, places_for, Adds, Model, readings_of, ChargeRecord, charge_of, with_source, Setup, Board, sides, finds, source_access, source_made, entry_of_source, row_of, sides_of, IsSetup, memory, state, Holds}
 use Rattle.std.specs.List.{count_by}
 use Rattle.fram_words.specs.Accesses.{Makes}
 use Rattle.push_core.specs.Queue.{published}
@@ -8,7 +8,7 @@ use Rattle.kernel_core.specs.Settled.{settles, pushes_beside}
 use Rattle.kernel_core.proofs.Others.{point_adds}
 use Rattle.kernel_core.proofs.Turns.{background_of}
 use Rattle.kernel_core.proofs.Paces.{IsPaced, others_pace}
-use Rattle.kernel_core.proofs.PaceSteps.{settled_at, pushed_at, source_tails, source_events, source_pace}
+use Rattle.kernel_core.proofs.PaceSteps.{settled_at, source_tails, source_events, source_pace}
 use Rattle.kernel_core.proofs.PacedCharges.{counted, count_noted, own_counts, beside_counts, IsPacedIn}
 use Rattle.kernel_core.proofs.TurnViews.{viewed, source_finds, source_words, source_point, source_state}
 

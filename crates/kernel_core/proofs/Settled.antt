@@ -1,5 +1,5 @@
 -- A source settles readings by its accesses, in each charge of every list of turns and cuts.
-use Rattle.kernel_core.proofs.Common.{◌≡◌, inl, inr, ℕ, ◌+◌, ◌-◌, ◌<◌, ◌≤◌, cond, Bool, true, false, List, [], ◌∷◌, ◌++◌, length, set, replicate, slice_index, Some, refl, sym, ap, ◌∙◌, subst, arith, cases_eq, cases_lt, get_or-set_same, get_or-replicate, get_or_past, length-replicate, Actor, Entry, Tick, Tail, source_thread, Row, first_row, is_left, places_for, readings_of, Lasts, lasts_less, entry_of_point, point_found, ChargeRecord, charge_of, not_begun, with_kernel, with_tick, begun, Setup, Board, Move, Cut, Turn, sides, finds, kernel_access, kernel_turn, clock_turn, source_made, row_of, turn, cut, moved_by, first_board, sides_of, IsSetup, memory, state, Holds, IsActor, AreMoves, IsInRange, ticks, turns}
+use Rattle.kernel_core.proofs.Common.{◌≡◌, inl, inr, ℕ, ◌-◌, ◌<◌, cond, Bool, true, false, List, [], ◌∷◌, length, set, replicate, slice_index, Some, refl, sym, subst, arith, cases_eq, cases_lt, get_or-replicate, get_or_past, length-replicate, Actor, Tick, Tail, source_thread, Row, first_row, is_left, places_for, readings_of, Lasts, lasts_less, entry_of_point, point_found, ChargeRecord, charge_of, not_begun, with_kernel, with_tick, begun, Setup, Board, Move, Cut, Turn, sides, finds, kernel_access, kernel_turn, clock_turn, source_made, row_of, turn, cut, moved_by, first_board, sides_of, IsSetup, memory, state, Holds, IsActor, AreMoves, IsInRange, ticks, turns}
 use Rattle.std.specs.List.{count_by}
 use Rattle.ink_base.specs.declared.actor.Actor.TheVariants as actors
 use Rattle.push_core.specs.Queue.{published}

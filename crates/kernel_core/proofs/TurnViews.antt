@@ -1,5 +1,5 @@
 -- What the sources' side sees of a turn.
-use Rattle.kernel_core.proofs.Common.{◌≡◌, inl, ℕ, ◌+◌, ◌-◌, ◌<◌, true, length, Option, Some, refl, sym, ap, ◌∙◌, subst, arith, Entry, Tick, Clock, Memory, Add, memory_of, perform, performed, answer, place_of, is_valid, finds_there, performed_there, at_address, entry_of_point, valid, below, access, access_of-port, State, Step, Model, noted, moved, after, after-noted, Lasts, wants, point_found, ChargeRecord, charge_of, journal_of, with_kernel, with_tick, with_source, Point, point_of, port_of, Setup, Board, shape, sides, journal, charged, finds, kernel_access, kernel_turn, clock_turn, source_access, source_made, entry_of_source, row_of, seen, IsSetup, memory, state, Holds}
+use Rattle.kernel_core.proofs.Common.{◌≡◌, inl, ℕ, ◌-◌, ◌<◌, true, length, Option, Some, refl, sym, ap, ◌∙◌, subst, Entry, Tick, Clock, Memory, Add, memory_of, perform, performed, answer, place_of, is_valid, finds_there, performed_there, entry_of_point, valid, below, access, access_of-port, State, Step, Model, noted, moved, after, after-noted, Lasts, wants, point_found, ChargeRecord, charge_of, journal_of, with_kernel, with_tick, with_source, Point, point_of, port_of, Setup, Board, shape, sides, journal, charged, finds, kernel_access, kernel_turn, clock_turn, source_access, source_made, entry_of_source, row_of, seen, IsSetup, memory, state, Holds}
 use Rattle.source_laws.specs.Steps as steps
 use Rattle.kernel_core.proofs.Quiet.{quiet}
 use Rattle.kernel_core.proofs.Charges.{charged_journal}
