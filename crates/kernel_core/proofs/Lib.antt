@@ -34,4 +34,5 @@ pub mod TurnViews
 pub mod PacedCharges
 pub mod PacedSources
 pub mod Settled
+pub mod CoreSettles
 pub mod RunRecords
