@@ -34,5 +34,4 @@ pub mod TurnViews
 pub mod PacedCharges
 pub mod PacedSources
 pub mod Settled
-pub mod CoreSettles
 pub mod RunRecords

@@ -16,7 +16,8 @@ use Rattle.source_laws.specs.Rows.{entry_of}
 use Rattle.source_laws.specs.Stands.{near}
 use Rattle.source_laws.specs.Steps as steps
 use Rattle.source_laws.specs.kept.Knows.{KnowsAt}
-use Rattle.kernel_core.proofs.Paces.{spent, reach, IsPaced, row_moves}
+use Rattle.kernel_core.specs.kept.Paces.{spent, reach, IsPaced}
+use Rattle.kernel_core.proofs.Paces.{row_moves}
 
 -- how many readings the access settles
 abbrev pub settled_at : Point → ℕ

@@ -5,9 +5,10 @@ use Rattle.std.proofs.lemmas.List.Sums.{sum_by_push}
 use Rattle.push_core.specs.Queue.{published}
 use Rattle.push_core.specs.declared.point.Point.TheVariants as points
 use Rattle.source_laws.specs.Stands.{near}
-use Rattle.kernel_core.specs.Settled.{settles, pushes_beside, SettlesEnough, ChargesSettle}
+use Rattle.kernel_core.specs.Settled.{settles, pushes_beside, SettlesEnough}
+use Rattle.kernel_core.specs.kept.Paces.{IsPaced, IsPacedIn, IsFresh, Settles}
 use Rattle.kernel_core.proofs.Charges.{others_stay}
-use Rattle.kernel_core.proofs.Paces.{IsPaced, paced_enough, others_pace}
+use Rattle.kernel_core.proofs.Paces.{paced_enough, others_pace}
 use Rattle.kernel_core.proofs.PaceSteps.{settled_at, pushed_at, step_tails, step_events}
 use Rattle.kernel_core.proofs.TurnViews.{viewed}
 
@@ -33,23 +34,6 @@ beside_counts s i j points.Nothing other = refl
 beside_counts s i j points.Pushed other = rw (ne_eqb j i other) refl
 beside_counts s i j points.Refused other = refl
 beside_counts s i j points.Skipped other = refl
-
--- the pace of source i in a charge
-abbrev pub IsPacedIn : Setup → Board → ℕ → ChargeRecord → Type 0
-IsPacedIn s b i c =
-    IsPaced (places_for (sides s) i) (slice_index c.source_steps i) (count_by (settles i) c.entries) (count_by (pushes_beside s.program i) c.entries)
-    (memory s b (Tail (source_thread s.program i))) (published ((sides_of (state s b)).queue (source_thread s.program i))) (row_of b i).stage
-
--- a charge without entries and accesses
-pub record IsFresh (c : ChargeRecord) : Type 0 where
-  pub entries : c.entries ≡ []
-  pub steps : (i : ℕ) → slice_index c.source_steps i ≡ 0
-
--- what every turn and every cut keeps
-pub record Settles (s : Setup) (b : Board) : Type 0 where
-  pub all : ChargesSettle s.program b.charges
-  pub later : (k : ℕ) → b.begun ≤ k → IsFresh (charge_of b.charges k)
-  pub paced : 0 < b.begun → (i : ℕ) → i < length s.program.sources → IsPacedIn s b i (charge_of b.charges (b.begun - 1))
 
 enough_in : (s : Setup) (count : ℕ) (b : Board) (i : ℕ) (c : ChargeRecord) → Holds s count b → IsPacedIn s b i c → SettlesEnough s.program i c
 enough_in s count b i c h p m enough =

@@ -1,4 +1,4 @@
--- How far a source is in a charge: how many accesses it has made there, by the readings that it settled and the events that the others pushed.
+-- What the pace of a source tells, and the rows that it goes through.
 use Rattle.kernel_core.proofs.Common.{◌≡◌, ℕ, ◌+◌, ◌*◌, ◌%◌, ◌≤◌, ◌==◌, ◌&&◌, ◌||◌, cond, nat_lt, Bool, true, false, Option, Some, None, arith, Stage, LoadSrc, LoadSlots, LoadAck, LoadTail, LoadSlot, Publish, MoveTail, HelpTail, StoreSkip, StoreAccepted, Near, empty_word, slot_in}
 use Rattle.push_core.specs.Queue.{published}
 use Rattle.push_core.specs.Table.{after_slot, shows_own, take_at}
@@ -7,34 +7,7 @@ use Rattle.push_core.specs.declared.slot.Slot.{Slot}
 use Rattle.push_core.specs.declared.slot.Slot.TheVariants.{Empty, Full}
 use Rattle.source_laws.specs.kept.Knows.{KnowsAt}
 use Rattle.kernel_core.specs.Settled.{enough_for}
-
--- the accesses of a charge up to a row: those of the boot, and those of the round that the row is in; a round counts as settled from its entry on
-abbrev pub spent : (places : ℕ) → Stage → ℕ
-spent places LoadSrc = 0
-spent places (LoadSlots n seen) = n + 1
-spent places (LoadAck seen) = places + 1
-spent places LoadTail = places + 3
-spent places (LoadSlot p) = places + 4
-spent places (Publish p) = places + 5
-spent places (MoveTail p) = places + 1
-spent places (HelpTail p) = places + 6
-spent places StoreSkip = places + 5
-spent places StoreAccepted = places + 2
-
--- the position up to which a source in this row has come: the tail, or the one that it loaded
-abbrev pub reach : (tail : ℕ) → Stage → ℕ
-reach tail (LoadSlot p) = p
-reach tail (Publish p) = p
-reach tail (MoveTail p) = p + 1
-reach tail (HelpTail p) = p
-reach tail _ = tail
-
--- Five accesses for each settled reading, four for each tail that was helped on. The helped tails rise, none of them is at an event that the
--- source pushed in this charge, and all but one are at events that others pushed in it.
-pub record IsPaced (places made settled others tail events : ℕ) (stage : Stage) : Type 0 where
-  pub helped : ℕ
-  pub accesses : made ≤ spent places stage + 5 * settled + 4 * helped
-  pub tails : helped + events ≤ reach tail stage + 1 + others
+use Rattle.kernel_core.specs.kept.Paces.{spent, reach, IsPaced}
 
 -- a row that a source can be in: no access of its boot is too many, and it has come no further than the events
 within_row : (i places readings a k : ℕ) (n : Near) (stage : Stage) → KnowsAt i places readings n a k stage → n.tail ≤ published n.queue → (spent places stage ≤ places + 6) × (reach n.tail stage ≤ published n.queue)

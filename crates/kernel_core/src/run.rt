@@ -21,7 +21,6 @@ impl Core {
         ensures job { self.new.job ≡ self.old.job }
         ensures settled { ChargesSettle self.new.job.program self.new.board.charges }
     {
-        self.will_settle();
         for n in 0..self.listed().len() {
             self.run_charge(n);
         }

@@ -1,5 +1,4 @@
-use Rattle.kernel_core.proofs.Common.{◌≡◌, ◌<◌, ◌≤◌, length, refl, sym, ap, ◌∙◌, subst, arith, flat_map, JobParts, Board, moved_by, moves, moves_of, setup_of, charge_def}
-use Rattle.kernel_core.specs.Settled.{ChargesSettle}
+use Rattle.kernel_core.proofs.Common.{◌<◌, ◌≤◌, length, refl, sym, ap, ◌∙◌, subst, arith, flat_map, JobParts, moved_by, moves_of, setup_of, charge_def}
 use Rattle.kernel_core.proofs.CoreJobs.{taken}
 use Rattle.kernel_core.proofs.CoreRuns.{charges_more}
 use Rattle.kernel_core.proofs.board.Core.run.Goals as goal
@@ -29,10 +28,3 @@ returns-clause-board c =
 
 pub returns-clause-job : goal.returns-clause-job
 returns-clause-job c = c.loop-n.invariant.0
-
-pub returns-clause-settled : goal.returns-clause-settled
-returns-clause-settled c =
-    let end : length c.args.self.now.job.charges ≤ c.loop-n.n = let e = ap length c.listed-n-end.ensures.same in let le = c.loop-n-test.false in omega arith in
-    subst (λ (z : JobParts × Board). ChargesSettle z.0.program z.1.charges)
-    (sym (λ k. (c.loop-n.invariant.0 k, (c.loop-n.invariant.1 ∙ ap (λ l. moved_by (setup_of c.args.self.now.job) c.args.self.now.board (flat_map moves_of l)) (taken c.args.self.now.job.charges c.loop-n.n end)) k)))
-    c.will_settle.ensures
