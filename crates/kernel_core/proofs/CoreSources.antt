@@ -1,5 +1,5 @@
 -- A source's turn on the fields of a core.
-use Rattle.kernel_core.proofs.Common.{◌≡◌, inl, inr, ℕ, zero, suc, ◌+◌, ◌-◌, ◌<◌, ◌≤◌, ◌^◌, cond, List, [], ◌∷◌, length, map, get_or, set, slice_index, Option, Some, refl, sym, ap, ◌∙◌, subst, arith, length-set, get_or-set_same, get_or-set_other, cases_eq, cases_lt, length-map, get_or_read, get_or_past, Entry, place_of, answer, Access, Layout, performed, address_of, FitsWords, at_address, finds_there, address_same, IsOnBoard, valid, below, readings_of, first_row, take_of, point_of, want_of, IsLeft, IsFew, IsRowFor, IsAnswer, Row, Stage, LoadSrc, LoadSlots, LoadAck, LoadTail, LoadSlot, Publish, MoveTail, HelpTail, StoreSkip, StoreAccepted, Pusher, Point, JobParts, access, port_of, access_of-port, ChargeRecord, with_source, Recorded, KeepsRoom, Setup, Board, shape, sides, finds, charged, row_of, source_access, source_made, source_turn, entry_of_source, seen, memory, state, access_made, setup_of, IsCore, IsPusher, CanCount, charge_in, row_in, none_recorded, no_pusher}
+use Rattle.kernel_core.proofs.Common.{◌≡◌, inl, inr, ℕ, zero, suc, ◌+◌, ◌-◌, ◌<◌, ◌^◌, cond, List, [], ◌∷◌, length, map, get_or, set, slice_index, Option, Some, refl, sym, ap, ◌∙◌, subst, arith, length-set, get_or-set_same, get_or-set_other, cases_eq, cases_lt, length-map, get_or_read, get_or_past, Entry, place_of, answer, Access, Layout, performed, address_of, FitsWords, at_address, finds_there, address_same, IsOnBoard, valid, below, readings_of, first_row, take_of, point_of, want_of, IsLeft, IsFew, IsRowFor, IsAnswer, Row, Stage, LoadSrc, LoadSlots, LoadAck, LoadTail, LoadSlot, Publish, MoveTail, HelpTail, StoreSkip, StoreAccepted, Pusher, Point, JobParts, access, port_of, access_of-port, ChargeRecord, with_source, Recorded, KeepsRoom, Setup, Board, shape, sides, finds, charged, row_of, source_access, source_made, source_turn, entry_of_source, seen, memory, state, access_made, setup_of, IsCore, IsPusher, CanCount, charge_in, row_in, none_recorded, no_pusher}
 use Rattle.push_core.specs.Table.{access_of}
 use Rattle.source_laws.proofs.Fits.{row_fits, answer_fits}
 use Rattle.kernel_core.proofs.Sides.{within}

@@ -1,5 +1,5 @@
 -- The turns of the kernel and the clock on the fields of a core.
-use Rattle.kernel_core.proofs.Common.{◌≡◌, ◌≢◌, inl, inr, ℕ, zero, suc, ◌+◌, ◌-◌, ◌<◌, ◌≤◌, ◌^◌, List, [], ◌∷◌, length, map, get_or, set, slice_index, Option, Some, refl, sym, ap, ◌∙◌, subst, arith, get_or-set_same, get_or-set_other, cases_eq, length-map, get_or_read, Entry, Memory, answer, place_of, address, Access, Layout, performed, address_of, FitsWords, at_address, finds_there, word_there, address_same, Program, at_layout, IsLayout, entry_of_point, IsOnBoard, valid, below, Model, IsAllowed, Lasts, lasts_less, Pusher, JobParts, scan_in_range, every_task_fits, Kernel, wants, takes, point_found, ChargeRecord, charge_of, with_kernel, with_tick, Recorded, KeepsRoom, Setup, Board, shape, finds, charged, kernel_access, kernel_turn, clock_turn, turn, BoardStands, memory, state, Holds, kernel_made, clock_made, setup_of, turns_in, IsCore, IsPusher, AreRecords, CanCount, StaysInRange, charge_in, row_in, none_recorded, no_pusher, turns_from}
+use Rattle.kernel_core.proofs.Common.{◌≡◌, ◌≢◌, inl, inr, ℕ, zero, suc, ◌+◌, ◌-◌, ◌<◌, ◌≤◌, ◌^◌, List, [], ◌∷◌, length, map, get_or, set, slice_index, Option, Some, refl, sym, ap, ◌∙◌, subst, arith, get_or-set_same, get_or-set_other, cases_eq, length-map, get_or_read, Entry, Memory, answer, place_of, address, Access, Layout, performed, address_of, FitsWords, at_address, finds_there, word_there, address_same, Program, at_layout, IsLayout, entry_of_point, IsOnBoard, valid, below, Model, IsAllowed, Lasts, lasts_less, Pusher, JobParts, scan_in_range, every_task_fits, Kernel, wants, takes, point_found, ChargeRecord, charge_of, with_kernel, with_tick, Recorded, KeepsRoom, Setup, Board, shape, finds, charged, kernel_access, kernel_turn, clock_turn, BoardStands, memory, state, kernel_made, clock_made, setup_of, turns_in, IsCore, IsPusher, AreRecords, CanCount, StaysInRange, charge_in, row_in, none_recorded, no_pusher, turns_from}
 use Rattle.ink_base.specs.declared.actor.Actor.TheVariants as actors
 use Rattle.fram_words.specs.Places as places
 use Rattle.fram_words.specs.declared.access.Access.TheVariants as fram

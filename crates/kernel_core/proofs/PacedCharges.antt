@@ -1,5 +1,5 @@
 -- The pace of the sources in the charge at hand, and that each charge has settled enough.
-use Rattle.kernel_core.proofs.Common.{◌≡◌, inl, inr, ℕ, ◌+◌, ◌-◌, ◌<◌, ◌≤◌, cond, Bool, List, [], length, set, slice_index, Option, Some, None, refl, sym, ap, ◌∙◌, subst, arith, eq-eqb, ne_eqb, cases_eq, get_or-set_same, Entry, Tail, source_thread, Row, Point, places_for, Step, readings_of, noted, ChargeRecord, charge_of, not_begun, Setup, Board, sides, entry_of_source, row_of, sides_of, memory, state, Holds}
+use Rattle.kernel_core.proofs.Common.{◌≡◌, inl, inr, ℕ, ◌+◌, ◌-◌, ◌<◌, ◌≤◌, cond, Bool, List, length, set, slice_index, Option, Some, None, refl, sym, ap, ◌∙◌, subst, arith, eq-eqb, ne_eqb, cases_eq, get_or-set_same, Entry, Tail, source_thread, Row, Point, places_for, Step, readings_of, noted, ChargeRecord, charge_of, not_begun, Setup, Board, sides, entry_of_source, row_of, sides_of, memory, state, Holds}
 use Rattle.std.specs.List.{count_by}
 use Rattle.std.proofs.lemmas.List.Sums.{sum_by_push}
 use Rattle.push_core.specs.Queue.{published}

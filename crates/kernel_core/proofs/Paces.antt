@@ -1,5 +1,5 @@
 -- What the pace of a source tells, and the rows that it goes through.
-use Rattle.kernel_core.proofs.Common.{◌≡◌, ℕ, ◌+◌, ◌*◌, ◌%◌, ◌≤◌, ◌==◌, ◌&&◌, ◌||◌, cond, nat_lt, Bool, true, false, Option, Some, None, arith, Stage, LoadSrc, LoadSlots, LoadAck, LoadTail, LoadSlot, Publish, MoveTail, HelpTail, StoreSkip, StoreAccepted, Near, empty_word, slot_in}
+use Rattle.kernel_core.proofs.Common.{◌≡◌, ℕ, ◌+◌, ◌%◌, ◌≤◌, ◌==◌, ◌&&◌, ◌||◌, cond, nat_lt, Bool, true, false, Option, Some, None, arith, Stage, LoadSrc, LoadSlots, LoadAck, LoadTail, LoadSlot, Publish, MoveTail, HelpTail, StoreSkip, StoreAccepted, Near, empty_word, slot_in}
 use Rattle.push_core.specs.Queue.{published}
 use Rattle.push_core.specs.Table.{after_slot, shows_own, take_at}
 use Rattle.push_core.specs.declared.port.Port.{Port}

@@ -1,5 +1,5 @@
 -- The fields of a core before its first charge.
-use Rattle.kernel_core.proofs.Common.{◌≡◌, inl, inr, ℕ, zero, suc, ◌+◌, ◌-◌, ◌^◌, ◌<◌, List, [], ◌∷◌, ◌++◌, length, map, replicate, get_or, length-append, refl, sym, ap, ◌∙◌, subst, arith, cases_eq, length-replicate, Program, Layout, first_row, IsPort, Pusher, port_of, IsAccepted, source_thread, Tail, Slot, Ack, Src, address, shape_of, words_of, queue_place, below, IsFirstImage, IsLayout, JobParts, IsJob, first_kernel, ChargeRecord, not_begun, Recorded, Board, sides, first_board, IsSetup, StandsFirst, Holds, setup_of, IsCore, AreRecords, CanCount, charge_in, row_in, none_recorded, no_pusher, turns_from, first_pusher, AreFirstPushers, IsFirstRecord, AreFirstRecords, lasts_less, first_of}
+use Rattle.kernel_core.proofs.Common.{◌≡◌, inl, inr, ℕ, zero, suc, ◌+◌, ◌-◌, ◌^◌, ◌<◌, List, [], ◌∷◌, ◌++◌, length, map, replicate, get_or, length-append, refl, sym, ap, ◌∙◌, subst, arith, cases_eq, length-replicate, Program, Layout, first_row, IsPort, Pusher, port_of, IsAccepted, source_thread, Tail, Slot, Ack, Src, address, shape_of, words_of, queue_place, below, IsLayout, JobParts, IsJob, first_kernel, ChargeRecord, not_begun, Recorded, Board, sides, first_board, IsSetup, StandsFirst, Holds, setup_of, IsCore, AreRecords, CanCount, charge_in, row_in, none_recorded, no_pusher, turns_from, first_pusher, AreFirstPushers, IsFirstRecord, AreFirstRecords, lasts_less, first_of}
 use Rattle.std.proofs.Math.ListN.{get_or-append}
 use Rattle.std.proofs.Math.Seq.{get_or-append_seam}
 use Rattle.ink_layout.proofs.Bounds.{few_words}
