@@ -28,10 +28,10 @@ pub mod Again
 pub mod Growth
 pub mod Scanned
 pub mod Settling
-pub mod Paces
+pub mod SourcePaces
 pub mod PaceSteps
 pub mod TurnViews
-pub mod PacedCharges
+pub mod SettledCharges
 pub mod PacedSources
 pub mod Settled
 pub mod RunRecords

@@ -17,7 +17,7 @@ use Rattle.source_laws.specs.Stands.{near}
 use Rattle.source_laws.specs.Steps as steps
 use Rattle.source_laws.specs.kept.Knows.{KnowsAt}
 use Rattle.kernel_core.specs.kept.Paces.{spent, reach, IsPaced}
-use Rattle.kernel_core.proofs.Paces.{row_moves}
+use Rattle.kernel_core.proofs.SourcePaces.{row_moves}
 
 -- how many readings the access settles
 abbrev pub settled_at : Point → ℕ

@@ -8,9 +8,9 @@ use Rattle.kernel_core.specs.Settled.{settles, pushes_beside}
 use Rattle.kernel_core.specs.kept.Paces.{IsPaced, IsPacedIn}
 use Rattle.kernel_core.proofs.Others.{point_adds}
 use Rattle.kernel_core.proofs.Turns.{background_of}
-use Rattle.kernel_core.proofs.Paces.{others_pace}
+use Rattle.kernel_core.proofs.SourcePaces.{others_pace}
 use Rattle.kernel_core.proofs.PaceSteps.{settled_at, source_tails, source_events, source_pace}
-use Rattle.kernel_core.proofs.PacedCharges.{counted, count_noted, own_counts, beside_counts}
+use Rattle.kernel_core.proofs.SettledCharges.{counted, count_noted, own_counts, beside_counts}
 use Rattle.kernel_core.proofs.TurnViews.{viewed, source_finds, source_words, source_point, source_state}
 
 -- one access more is counted at most

@@ -9,8 +9,8 @@ use Rattle.kernel_core.proofs.Cuts.{first_rows, cut_goes}
 use Rattle.kernel_core.proofs.Runs.{turn_begun, turn_goes, after_turn, after_cut}
 use Rattle.kernel_core.proofs.Firsts.{first_holds}
 use Rattle.kernel_core.proofs.JobMoves.{job_moves, job_setup, job_first, job_range}
-use Rattle.kernel_core.proofs.Paces.{others_pace, boot_pace}
-use Rattle.kernel_core.proofs.PacedCharges.{fresh_enough, set_settles, still_paced}
+use Rattle.kernel_core.proofs.SourcePaces.{others_pace, boot_pace}
+use Rattle.kernel_core.proofs.SettledCharges.{fresh_enough, set_settles, still_paced}
 use Rattle.kernel_core.proofs.PacedSources.{source_record, own_paced, other_paced}
 use Rattle.kernel_core.proofs.TurnViews.{kernel_view, clock_view}
 

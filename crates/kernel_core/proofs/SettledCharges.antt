@@ -8,7 +8,7 @@ use Rattle.source_laws.specs.Stands.{near}
 use Rattle.kernel_core.specs.Settled.{settles, pushes_beside, SettlesEnough}
 use Rattle.kernel_core.specs.kept.Paces.{IsPaced, IsPacedIn, IsFresh, Settles}
 use Rattle.kernel_core.proofs.Charges.{others_stay}
-use Rattle.kernel_core.proofs.Paces.{paced_enough, others_pace}
+use Rattle.kernel_core.proofs.SourcePaces.{paced_enough, others_pace}
 use Rattle.kernel_core.proofs.PaceSteps.{settled_at, pushed_at, step_tails, step_events}
 use Rattle.kernel_core.proofs.TurnViews.{viewed}
 
