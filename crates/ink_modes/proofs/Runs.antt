@@ -7,9 +7,11 @@ use Rattle.never_cut.proofs.ThreadStates.{states_by_commits}
 use Rattle.never_cut.proofs.Stamped.{stamps_by_commits}
 use Rattle.kernel_core.specs.Scanned.{ChargesAreScanned}
 use Rattle.kernel_core.specs.Answered.{ChargesArePaced}
+use Rattle.kernel_core.specs.Settled.{ChargesSettle}
 use Rattle.kernel_core.proofs.Growth.{run_grows, run_few, run_legal, run_journal}
 use Rattle.kernel_core.proofs.Scanned.{run_scanned}
 use Rattle.kernel_core.proofs.Paced.{run_paced}
+use Rattle.kernel_core.proofs.Settled.{run_settles}
 
 module _ (job : JobParts) (first : List ℕ) (r : RunRecord) (is : IsJob job) (image : AreFirstWords job.program job.start first) (charges : r.charges ≡ (board_run job first).charges) where
   journal_same : journal_in r ≡ journal (board_run job first)
@@ -38,4 +40,5 @@ module _ (job : JobParts) (first : List ℕ) (r : RunRecord) (is : IsJob job) (i
     stamps = stamps_by_commits job.program job.readings (first_of job) (journal_in r) start.sound.stamps legal_in;
     scanned = subst (λ (l : List ChargeRecord). ChargesAreScanned l) (sym charges) (run_scanned job first is);
     paced = subst (λ (l : List ChargeRecord). ChargesArePaced (setup_of job) l) (sym charges) (run_paced job first is image);
+    settled = subst (λ (l : List ChargeRecord). ChargesSettle job.program l) (sym charges) (run_settles job first is image);
   }

@@ -11,6 +11,7 @@ use Rattle.kernel_core.specs.Listed.{run, run_first}
 use Rattle.kernel_core.specs.Core.{setup_of}
 use Rattle.kernel_core.specs.Scanned.{ChargesAreScanned}
 use Rattle.kernel_core.specs.Answered.{ChargesArePaced}
+use Rattle.kernel_core.specs.Settled.{ChargesSettle}
 pub use Rattle.kernel_core.specs.RunRecords.{entries_of, journal_in, state_in}
 use Rattle.ink_report.specs.declared.flags.Flags.{Flags}
 use Rattle.ink_report.specs.Report as report
@@ -25,8 +26,8 @@ board_run job words = run (setup_of job) words job.charges
 
 -- The board ran the job from the words of its start on, or else from those of the first image, and the record is what it left behind. After each access and each cut the
 -- words stood for the never-cut kernel after the journal so far, which was legal and a beginning of the record's. The record's journal is
--- legal, and keeps the laws of legal journals. In each charge a commit stands behind a scan of that charge, and so many scans are answered as its kernel's
--- accesses allow.
+-- legal, and keeps the laws of legal journals. In each charge a commit stands behind a scan of that charge, so many scans are answered as its kernel's
+-- accesses allow, and every source settles as many readings as its accesses are enough for.
 pub record IsRunOf (job : JobParts) (r : RunRecord) : Type 0 where
   pub job_is : r.job ≡ job
   pub first : List ℕ
@@ -43,6 +44,7 @@ pub record IsRunOf (job : JobParts) (r : RunRecord) : Type 0 where
   pub stamps : StampsByCommits job.program job.readings (first_of job) (journal_in r)
   pub scanned : ChargesAreScanned r.charges
   pub paced : ChargesArePaced (setup_of job) r.charges
+  pub settled : ChargesSettle job.program r.charges
 
 -- the text of a run: the outputs that its journal committed, the summary, and what is shown besides
 abbrev pub run_text_of : RunRecord → Flags → List ℕ

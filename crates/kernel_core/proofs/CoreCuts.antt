@@ -2,9 +2,11 @@
 use Rattle.kernel_core.proofs.Common.{◌≡◌, ◌≢◌, inl, inr, ℕ, zero, suc, ◌+◌, ◌-◌, ◌<◌, ◌≤◌, ◌^◌, List, [], ◌∷◌, length, map, replicate, get_or, set, slice_index, refl, sym, ap, ◌∙◌, subst, arith, get_or-set_same, get_or-set_other, cases_eq, cases_lt, length-map, get_or_read, get_or_past, get_or-replicate, length-replicate, address, Layout, performed, first_row, Pusher, JobParts, Kernel, first_kernel, ChargeRecord, charge_of, not_begun, begun, Recorded, KeepsRoom, Lasts, lasts_less, Board, shape, cut, state, setup_of, turns_in, IsCore, AreRecords, CanCount, StaysInRange, charge_in, row_in, rebooted, none_recorded, no_pusher, turns_from}
 use Rattle.fram_words.specs.Places as places
 use Rattle.fram_words.specs.declared.access.Access.TheVariants as fram
+use Rattle.kernel_core.specs.kept.Paces.{Settles}
 use Rattle.kernel_core.proofs.CoreJobs.{turns_split}
 use Rattle.kernel_core.proofs.Turns.{Goes}
 use Rattle.kernel_core.proofs.Cuts.{cut_goes, cut_lasts}
+use Rattle.kernel_core.proofs.Settled.{cut_settles}
 use Rattle.kernel_core.proofs.CoreSteps.{map-set, charge_at, clock_word, records_count}
 
 rows_lost : (ps : List Pusher) → map row_in (map rebooted ps) ≡ replicate (length ps) first_row
@@ -115,13 +117,15 @@ module _ (job : JobParts) (l : Layout) (b : Board) (room : ℕ) (ps : List Pushe
   pub cut_core : (words : List ℕ) (x : Recorded) → words ≡ performed (fram.Add l.clock off) b.words → x.charge ≡ begun off (get_or records b.begun none_recorded).charge → KeepsRoom (get_or records b.begun none_recorded) x →
       IsCore job l (After words x) (turns_in job b.begun) (map rebooted ps) (set records b.begun x)
   cut_core words x made counts spare =
-      let go = subst (λ z. Goes (setup_of job) (length job.charges) b z off) (sym (cut_is words x made counts)) (cut_goes (setup_of job) (length job.charges) b off h.is_setup h.holds more clock_room) in
+      let cuts = cut_goes (setup_of job) (length job.charges) b off h.is_setup h.holds more clock_room in
+      let go = subst (λ z. Goes (setup_of job) (length job.charges) b z off) (sym (cut_is words x made counts)) cuts in
       record {
         is_setup = h.is_setup;
         layout_is = h.layout_is;
         rows = refl;
         machines = λ i lt. record { port = ports_kept ps i ∙ (h.machines i lt).port; right = (h.machines i lt).right };
         holds = go.holds;
+        settling = subst (λ z. Settles (setup_of job) z) (sym (cut_is words x made counts)) (cut_settles (setup_of job) (length job.charges) b off h.holds cuts.holds h.settling more);
         range = range_after (After words x) refl (cut_is words x made counts) go;
         charges = refl;
         records_are = records_after x counts spare;

@@ -1,10 +1,11 @@
 -- A source's turn on the fields of a core.
-use Rattle.kernel_core.proofs.Common.{◌≡◌, inl, inr, ℕ, zero, suc, ◌+◌, ◌-◌, ◌<◌, ◌≤◌, ◌^◌, cond, List, [], ◌∷◌, length, map, get_or, set, slice_index, Option, Some, refl, sym, ap, ◌∙◌, subst, arith, length-set, get_or-set_same, get_or-set_other, cases_eq, cases_lt, length-map, get_or_read, get_or_past, Entry, place_of, answer, Access, Layout, performed, address_of, FitsWords, at_address, finds_there, address_same, IsOnBoard, valid, below, readings_of, first_row, take_of, point_of, want_of, IsLeft, IsFew, IsRowFor, IsAnswer, Row, Stage, LoadSrc, LoadSlots, LoadAck, LoadTail, LoadSlot, Publish, MoveTail, HelpTail, StoreSkip, StoreAccepted, Pusher, Point, JobParts, access, port_of, access_of-port, ChargeRecord, with_source, Recorded, KeepsRoom, Setup, Board, shape, sides, finds, charged, row_of, source_access, source_made, source_turn, entry_of_source, seen, memory, state, access_made, setup_of, IsCore, IsPusher, CanCount, charge_in, row_in, none_recorded, no_pusher}
+use Rattle.kernel_core.proofs.Common.{◌≡◌, inl, inr, ℕ, zero, suc, ◌+◌, ◌-◌, ◌<◌, ◌^◌, cond, List, [], ◌∷◌, length, map, get_or, set, slice_index, Option, Some, refl, sym, ap, ◌∙◌, subst, arith, length-set, get_or-set_same, get_or-set_other, cases_eq, cases_lt, length-map, get_or_read, get_or_past, Entry, place_of, answer, Access, Layout, performed, address_of, FitsWords, at_address, finds_there, address_same, IsOnBoard, valid, below, readings_of, first_row, take_of, point_of, want_of, IsLeft, IsFew, IsRowFor, IsAnswer, Row, Stage, LoadSrc, LoadSlots, LoadAck, LoadTail, LoadSlot, Publish, MoveTail, HelpTail, StoreSkip, StoreAccepted, Pusher, Point, JobParts, access, port_of, access_of-port, ChargeRecord, with_source, Recorded, KeepsRoom, Setup, Board, shape, sides, finds, charged, row_of, source_access, source_made, source_turn, entry_of_source, seen, memory, state, access_made, setup_of, IsCore, IsPusher, CanCount, charge_in, row_in, none_recorded, no_pusher}
 use Rattle.push_core.specs.Table.{access_of}
 use Rattle.source_laws.proofs.Fits.{row_fits, answer_fits}
 use Rattle.kernel_core.proofs.Sides.{within}
 use Rattle.kernel_core.proofs.SourcePlaces.{source_on}
 use Rattle.kernel_core.proofs.Turns.{Goes, source_goes}
+use Rattle.kernel_core.proofs.Settled.{source_settles}
 use Rattle.kernel_core.proofs.CoreSteps.{charged_is, core_after}
 
 pub rows-set : (xs : List Pusher) (i : ℕ) (x : Pusher) → map row_in (set xs i x) ≡ set (map row_in xs) i (row_in x)
@@ -147,8 +148,9 @@ module _ (job : JobParts) (l : Layout) (b : Board) (room : ℕ) (ps : List Pushe
         let long : length b.rows ≡ length ps = ap length h.rows ∙ length-map ps row_in in
         let known : i < length ps = let e = h.holds.size.rows in omega arith in
         let turn : source_turn (setup_of job) b i ≡ source_made (setup_of job) b i = ap (λ z. cond z (source_made (setup_of job) b i) b) left in
+        let go = subst (λ z. Goes (setup_of job) (length job.charges) b z 1) turn (source_goes (setup_of job) (length job.charges) b i h.is_setup h.holds begun lt) in
         core_after job l b room ps records h (After words p x) (source_made (setup_of job) b i) (set ps i p) x (source_made_is p words point o x made taken pointed noted counts)
-        (subst (λ z. Goes (setup_of job) (length job.charges) b z 1) turn (source_goes (setup_of job) (length job.charges) b i h.is_setup h.holds begun lt)) refl refl refl
+        go (source_settles (setup_of job) (length job.charges) b i h.is_setup h.holds go.holds h.settling begun lt) refl refl refl
         (λ n inside. elim (cases_eq n i) [
           | inl e ↦ subst (λ z. IsPusher (setup_of job) z (get_or (set ps i p) z no_pusher)) (sym e)
               (subst (λ z. IsPusher (setup_of job) i z) (sym (get_or-set_same ps i p no_pusher known)) (record { port = port ∙ port_is q is; right = (h.machines i lt).right }))

@@ -1,15 +1,18 @@
 -- The turns of the kernel and the clock on the fields of a core.
-use Rattle.kernel_core.proofs.Common.{◌≡◌, ◌≢◌, inl, inr, ℕ, zero, suc, ◌+◌, ◌-◌, ◌<◌, ◌≤◌, ◌^◌, List, [], ◌∷◌, length, map, get_or, set, slice_index, Option, Some, refl, sym, ap, ◌∙◌, subst, arith, get_or-set_same, get_or-set_other, cases_eq, length-map, get_or_read, Entry, Memory, answer, place_of, address, Access, Layout, performed, address_of, FitsWords, at_address, finds_there, word_there, address_same, Program, at_layout, IsLayout, entry_of_point, IsOnBoard, valid, below, Model, IsAllowed, Lasts, lasts_less, Pusher, JobParts, scan_in_range, every_task_fits, Kernel, wants, takes, point_found, ChargeRecord, charge_of, with_kernel, with_tick, Recorded, KeepsRoom, Setup, Board, shape, finds, charged, kernel_access, kernel_turn, clock_turn, turn, BoardStands, memory, state, Holds, kernel_made, clock_made, setup_of, turns_in, IsCore, IsPusher, AreRecords, CanCount, StaysInRange, charge_in, row_in, none_recorded, no_pusher, turns_from}
+use Rattle.kernel_core.proofs.Common.{◌≡◌, ◌≢◌, inl, inr, ℕ, zero, suc, ◌+◌, ◌-◌, ◌<◌, ◌≤◌, ◌^◌, List, [], ◌∷◌, length, map, get_or, set, slice_index, Option, Some, refl, sym, ap, ◌∙◌, subst, arith, get_or-set_same, get_or-set_other, cases_eq, length-map, get_or_read, Entry, Memory, answer, place_of, address, Access, Layout, performed, address_of, FitsWords, at_address, finds_there, word_there, address_same, Program, at_layout, IsLayout, entry_of_point, IsOnBoard, valid, below, Model, IsAllowed, Lasts, lasts_less, Pusher, JobParts, scan_in_range, every_task_fits, Kernel, wants, takes, point_found, ChargeRecord, charge_of, with_kernel, with_tick, Recorded, KeepsRoom, Setup, Board, shape, finds, charged, kernel_access, kernel_turn, clock_turn, BoardStands, memory, state, kernel_made, clock_made, setup_of, turns_in, IsCore, IsPusher, AreRecords, CanCount, StaysInRange, charge_in, row_in, none_recorded, no_pusher, turns_from}
+use Rattle.ink_base.specs.declared.actor.Actor.TheVariants as actors
 use Rattle.fram_words.specs.Places as places
 use Rattle.fram_words.specs.declared.access.Access.TheVariants as fram
 use Rattle.reboot.proofs.Ranges.{boot_in_range}
 use Rattle.kernel_core.specs.declared.kernel.Kernel.TheVariants as kernels
 use Rattle.kernel_core.specs.Fits.{CanWant, CanTake}
+use Rattle.kernel_core.specs.kept.Paces.{Settles}
 use Rattle.kernel_core.proofs.Turns.{Goes, kernel_goes, background_of}
 use Rattle.kernel_core.proofs.Cuts.{clock_goes}
 use Rattle.kernel_core.proofs.KernelPlaces.{kernel_on}
 use Rattle.kernel_core.proofs.KernelTurns.{kernel_steps}
 use Rattle.kernel_core.proofs.Standing.{board_stands}
+use Rattle.kernel_core.proofs.Settled.{turn_settles}
 
 -- an access to a place of the board stands at the same address by layout and by shape
 pub same_access : (program : Program) (l : Layout) (a : places.Access) → IsLayout program l → IsOnBoard program (place_of a) → at_layout l a ≡ at_address (Rattle.ink_layout.specs.Shape.shape_of program) a
@@ -168,10 +171,10 @@ module _ (job : JobParts) (l : Layout) (b : Board) (room : ℕ) (ps : List Pushe
       })
 
   -- the core after a turn that leaves the rows
-  pub core_after : (next made : Board) (qs : List Pusher) (x : Recorded) → next ≡ made → Goes (setup_of job) (length job.charges) b made 1 → next.rows ≡ map row_in qs → next.charges ≡ map charge_in (set records (b.begun - 1) x) → next.begun ≡ b.begun →
+  pub core_after : (next made : Board) (qs : List Pusher) (x : Recorded) → next ≡ made → Goes (setup_of job) (length job.charges) b made 1 → Settles (setup_of job) made → next.rows ≡ map row_in qs → next.charges ≡ map charge_in (set records (b.begun - 1) x) → next.begun ≡ b.begun →
       ((i : ℕ) → i < length job.program.sources → IsPusher (setup_of job) i (get_or qs i no_pusher)) → 0 < b.begun → 0 < room → CanCount (room - 1) x.charge → KeepsRoom (get_or records (b.begun - 1) none_recorded) x →
       length x.charge.source_steps ≡ length (get_or records (b.begun - 1) none_recorded).charge.source_steps → IsCore job l next (room - 1) qs (set records (b.begun - 1) x)
-  core_after next made qs x is go rows charges begun_is machines begun some can spare steps =
+  core_after next made qs x is go settling rows charges begun_is machines begun some can spare steps =
       let goes = subst (λ z. Goes (setup_of job) (length job.charges) b z 1) (sym is) go in
       record {
         is_setup = h.is_setup;
@@ -179,6 +182,7 @@ module _ (job : JobParts) (l : Layout) (b : Board) (room : ℕ) (ps : List Pushe
         rows = rows;
         machines = machines;
         holds = goes.holds;
+        settling = subst (λ z. Settles (setup_of job) z) (sym is) settling;
         range = range_after next begun_is some goes;
         charges = charges;
         records_are = subst (λ n. AreRecords job n (room - 1) (set records (b.begun - 1) x)) (sym begun_is) (records_after x begun some can spare steps);
@@ -189,8 +193,9 @@ module _ (job : JobParts) (l : Layout) (b : Board) (room : ℕ) (ps : List Pushe
       o ≡ entry_of_point (point_found job.program b.kernel w) → x.charge ≡ with_kernel o (get_or records (b.begun - 1) none_recorded).charge → KeepsRoom (get_or records (b.begun - 1) none_recorded) x →
       IsCore job l (After words k x) (room - 1) ps (set records (b.begun - 1) x)
   kernel_turn_core a w words k o x begun some is found made taken noted counts spare =
+      let go = kernel_goes (setup_of job) (length job.charges) b h.is_setup h.holds begun (counts_room some) in
       core_after (After words k x) (kernel_turn (setup_of job) b) ps x (kernel_turn_is a w some is found words k o x made taken noted counts)
-      (kernel_goes (setup_of job) (length job.charges) b h.is_setup h.holds begun (counts_room some)) h.rows refl refl h.machines begun some
+      go (turn_settles (setup_of job) (length job.charges) b actors.Kernel h.is_setup h.holds go.holds h.settling begun tt (counts_room some)) h.rows refl refl h.machines begun some
       (subst (λ z. CanCount (room - 1) z) (sym counts) (let c = h.records_are.counts in record { kernel = let e = c.kernel in omega arith; sources = λ i. let e = c.sources i in omega arith; ticks = let e = c.ticks in omega arith }))
       spare (ap (λ (z : ChargeRecord). length z.source_steps) counts)
 
@@ -224,8 +229,9 @@ module _ (job : JobParts) (l : Layout) (b : Board) (room : ℕ) (ps : List Pushe
       KeepsRoom (get_or records (b.begun - 1) none_recorded) x →
       IsCore job l (record { words = words; kernel = b.kernel; rows = b.rows; charges = map charge_in (set records (b.begun - 1) x); begun = b.begun }) (room - 1) ps (set records (b.begun - 1) x)
   clock_turn_core words x begun some made counts spare =
+      let go = clock_goes (setup_of job) (length job.charges) b h.is_setup h.holds begun (let e = h.range.clock in omega arith) in
       core_after (record { words = words; kernel = b.kernel; rows = b.rows; charges = map charge_in (set records (b.begun - 1) x); begun = b.begun }) (clock_turn (setup_of job) b) ps x (clock_turn_is words x made counts)
-      (clock_goes (setup_of job) (length job.charges) b h.is_setup h.holds begun (let e = h.range.clock in omega arith)) h.rows refl refl h.machines begun some
+      go (turn_settles (setup_of job) (length job.charges) b actors.Clock h.is_setup h.holds go.holds h.settling begun tt (counts_room some)) h.rows refl refl h.machines begun some
       (subst (λ z. CanCount (room - 1) z) (sym counts) (let c = h.records_are.counts in record { kernel = let e = c.kernel in omega arith; sources = λ i. let e = c.sources i in omega arith; ticks = let e = c.ticks in omega arith }))
       spare (ap (λ (z : ChargeRecord). length z.source_steps) counts)
 

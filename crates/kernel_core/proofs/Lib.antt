@@ -28,6 +28,12 @@ pub mod Again
 pub mod Growth
 pub mod Scanned
 pub mod Settling
+pub mod SourcePaces
+pub mod PaceSteps
+pub mod TurnViews
+pub mod SettledCharges
+pub mod PacedSources
+pub mod Settled
 pub mod RunRecords
 pub mod Answers
 pub mod Paces

@@ -1,11 +1,13 @@
 -- The fields of a core before its first charge.
-use Rattle.kernel_core.proofs.Common.{◌≡◌, inl, inr, ℕ, zero, suc, ◌+◌, ◌-◌, ◌^◌, ◌<◌, List, [], ◌∷◌, ◌++◌, length, map, replicate, get_or, length-append, refl, sym, ap, ◌∙◌, subst, arith, cases_eq, length-replicate, Program, Layout, first_row, IsPort, Pusher, port_of, IsAccepted, source_thread, Tail, Slot, Ack, Src, address, shape_of, words_of, queue_place, below, IsFirstImage, IsLayout, JobParts, IsJob, first_kernel, ChargeRecord, not_begun, Recorded, Board, sides, first_board, IsSetup, StandsFirst, Holds, setup_of, IsCore, AreRecords, CanCount, charge_in, row_in, none_recorded, no_pusher, turns_from, first_pusher, AreFirstPushers, IsFirstRecord, AreFirstRecords, lasts_less, first_of}
+use Rattle.kernel_core.proofs.Common.{◌≡◌, inl, inr, ℕ, zero, suc, ◌+◌, ◌-◌, ◌^◌, ◌<◌, List, [], ◌∷◌, ◌++◌, length, map, replicate, get_or, length-append, refl, sym, ap, ◌∙◌, subst, arith, cases_eq, length-replicate, Program, Layout, first_row, IsPort, Pusher, port_of, IsAccepted, source_thread, Tail, Slot, Ack, Src, address, shape_of, words_of, queue_place, below, IsLayout, JobParts, IsJob, first_kernel, ChargeRecord, not_begun, Recorded, Board, sides, first_board, IsSetup, StandsFirst, Holds, setup_of, IsCore, AreRecords, CanCount, charge_in, row_in, none_recorded, no_pusher, turns_from, first_pusher, AreFirstPushers, IsFirstRecord, AreFirstRecords, lasts_less, first_of}
 use Rattle.std.proofs.Math.ListN.{get_or-append}
 use Rattle.std.proofs.Math.Seq.{get_or-append_seam}
 use Rattle.ink_layout.proofs.Bounds.{few_words}
+use Rattle.kernel_core.specs.kept.Paces.{Settles}
 use Rattle.kernel_core.proofs.CoreJobs.{turns_few}
 use Rattle.kernel_core.proofs.CoreCuts.{nothing_counted}
 use Rattle.kernel_core.proofs.Firsts.{first_holds}
+use Rattle.kernel_core.proofs.Settled.{first_settles}
 use Rattle.kernel_core.proofs.FirstWords.{clock_half}
 
 -- a list of which each element has the same image
@@ -107,6 +109,7 @@ module _ (job : JobParts) (words : List ℕ) (pushers : List Pusher) (records : 
     rows = refl;
     machines = λ i lt. record { port = ap (λ (p : Pusher). p.port) (ps.each i lt); right = right_port job g.accepted i lt };
     holds = subst (λ b. Holds (setup_of job) (length job.charges) b) (sym first_fields) (first_holds (setup_of job) words (length job.charges) g first);
+    settling = subst (λ b. Settles (setup_of job) b) (sym first_fields) (first_settles (setup_of job) words (length job.charges));
     range = let turns = turns_few job 0 is in let few = is.charges.count in record {
       clock = let half = clock_half job.program job.readings job.start is.start in omega arith;
       counts = lasts_less (2 ^ 32 - 1) (0 + turns_from job 0) (first_of job) (omega arith) g.start.counts;

@@ -13,5 +13,6 @@ pub mod Made
 pub mod Scanned
 pub mod Answered
 pub mod Settling
+pub mod Settled
 pub mod RunRecords
 pub mod kept

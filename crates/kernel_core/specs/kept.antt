@@ -3,3 +3,4 @@ pub mod Holds
 pub mod Recorded
 pub mod Cores
 pub mod Starts
+pub mod Paces

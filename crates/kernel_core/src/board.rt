@@ -6,6 +6,7 @@ ghost use Rattle.kernel_core.specs.Moves.{IsActor};
 ghost use Rattle.kernel_core.specs.Made.{made_by, accesses_in};
 ghost use Rattle.kernel_core.specs.Settling.{RefusalsKeep, SkipsStore};
 ghost use Rattle.kernel_core.specs.RunRecords.{RecordStands};
+ghost use Rattle.kernel_core.specs.Settled.{ChargesSettle};
 ghost use Rattle.job_parts.specs.Job.{AreFirstWords, IsJob};
 ghost use Rattle.kernel_core.specs.kept.Starts.{AreFirstPushers, AreFirstRecords};
 ghost use Rattle.kernel_core.specs.kept.Recorded.{emptied};
@@ -29,8 +30,9 @@ use push_core::{Pusher, Row};
 use sqlite_items::Items;
 use std::marker::Model;
 
-/// A job's board in its run: the words, the kernel, the sources and the clock, and what each charge leaves behind. Contracts see the
-/// job, the board, and for how many turns of the charge at hand there is room.
+/// A job's board in its run: the words, the kernel, the sources and the clock, and what each charge leaves behind. In each charge every
+/// source has settled as many readings as its accesses are enough for. Contracts see the job, the board, and for how many turns of the
+/// charge at hand there is room.
 #[derive(Drop)]
 pub struct Core {
     plan: Plan,
@@ -99,6 +101,7 @@ impl Core {
         ensures charges { result.charges ≡ self.board.charges }
         ensures words { result.words ≡ self.board.words }
         ensures stands { RecordStands result }
+        ensures settled { ChargesSettle result.job.program result.charges }
     {
         let Core {
             plan,
@@ -177,6 +180,7 @@ impl Core {
         ensures stands { BoardStands (setup_of self.new.job) self.new.board }
         ensures job { self.new.job ≡ self.old.job }
         ensures room { self.old.room ≡ self.new.room + accesses_in result }
+        ensures settled { ChargesSettle self.new.job.program self.new.board.charges }
 
         // What the entry tells of the words: a push that is refused leaves them all, its skip changes SRC of its source alone.
         ensures refused { RefusalsKeep result self.old.board.words self.new.board.words }
@@ -195,6 +199,7 @@ impl Core {
         ensures stands { BoardStands (setup_of self.new.job) self.new.board }
         ensures job { self.new.job ≡ self.old.job }
         ensures room { self.new.room ≡ turns_in self.old.job self.old.board.begun }
+        ensures settled { ChargesSettle self.new.job.program self.new.board.charges }
     {
         self.begin_charge(off);
         self.stands();
@@ -218,9 +223,10 @@ impl Core {
         self.begun += 1;
     }
 
-    // The journal is legal, and the words stand for the never-cut kernel after it.
+    // The journal is legal, the words stand for the never-cut kernel after it, and each charge has settled enough.
     pub(crate) fn stands(&self)
-        ensures { BoardStands (setup_of self.now.job) self.now.board }
+        ensures stands { BoardStands (setup_of self.now.job) self.now.board }
+        ensures settled { ChargesSettle self.now.job.program self.now.board.charges }
     {
         let _begun = self.begun;
     }

@@ -3,6 +3,7 @@
 ghost use Rattle.kernel_core.specs.Answered.{EveryChargePaced};
 ghost use Rattle.kernel_core.specs.Moves.{EveryPrefixStands, ImagePrefixesStand, OneIsFinished};
 ghost use Rattle.kernel_core.specs.Scanned.{EveryCommitScanned};
+ghost use Rattle.kernel_core.specs.Settled.{SourcesSettle};
 
 /// The law of the board, for every accepted program, any readings within the limits, any first words that stand for a state at which a
 /// run can begin, and every order of turns of sources, clock and kernel and of cuts. After each access and each cut the one journal kept
@@ -10,11 +11,16 @@ ghost use Rattle.kernel_core.specs.Scanned.{EveryCommitScanned};
 /// can begin at unless it is worn. The first image has such words. At most one thread has a finished event.
 ///
 /// No pick outlives a cut: of every program, from any words on and in any such order, each commit stands behind a scan of the same charge.
+///
+/// In each charge a source of a queue of N places that makes at least N + 6 + 5 m + 4 x accesses settles at least m readings, x being the
+/// events that the other sources of its queue push in that charge: it has m Push or Skip entries there. One that has no reading left makes
+/// no access.
 pub fn boards_stand()
     ensures stands { EveryPrefixStands }
     ensures image { ImagePrefixesStand }
     ensures finished { OneIsFinished }
     ensures scanned { EveryCommitScanned }
+    ensures settled { SourcesSettle }
 {}
 
 /// The size of a charge, for every accepted program, any readings within the limits, any first words that stand for a state at which a

@@ -15,6 +15,7 @@ use Rattle.kernel_core.specs.First.{IsSetup}
 use Rattle.kernel_core.specs.Stands.{state}
 use Rattle.kernel_core.specs.Core.{setup_of, turns_in}
 use Rattle.kernel_core.specs.kept.Holds.{Holds}
+use Rattle.kernel_core.specs.kept.Paces.{Settles}
 use Rattle.kernel_core.specs.kept.Recorded.{Recorded}
 
 -- the row of a source's machine
@@ -74,6 +75,7 @@ pub record IsCore (job : JobParts) (layout : Layout) (b : Board) (room : ℕ) (p
   pub rows : b.rows ≡ map row_in pushers
   pub machines : (i : ℕ) → i < length job.program.sources → IsPusher (setup_of job) i (slice_index_or pushers i no_pusher)
   pub holds : Holds (setup_of job) (length job.charges) b
+  pub settling : Settles (setup_of job) b
   pub range : StaysInRange job (state (setup_of job) b) b.begun room
   pub charges : b.charges ≡ map charge_in records
   pub records_are : AreRecords job b.begun room records
