@@ -4,4 +4,5 @@ pub mod Machine
 pub mod Fits
 pub mod Reached
 pub mod Knows
+pub mod Remaining
 pub mod kept
