@@ -34,3 +34,4 @@ pub mod Traps
 pub mod Words
 pub mod TaskWords
 pub mod Alone
+pub mod CleanPages
