@@ -35,3 +35,5 @@ pub mod Words
 pub mod TaskWords
 pub mod Alone
 pub mod CleanPages
+pub mod Counting
+pub mod RunLefts

@@ -36,7 +36,7 @@ abbrev pub IsAct : Told → Act → Type 0
 IsAct p act = act_of (instr_at p.a.code p.execution.at) p.a.given (cpu_of p.execution) ≡ act
 
 -- what the rest of the run is after this act
-step_from : (p : Told) (g : RunningIn p) (act : Act) → IsAct p act → (s : Stepped) → execute act p.a.given p.a.room (config_of p.execution g.effects) ≡ s →
+pub step_from : (p : Told) (g : RunningIn p) (act : Act) → IsAct p act → (s : Stepped) → execute act p.a.given p.a.room (config_of p.execution g.effects) ≡ s →
     rest_of p.a.code p.a.given p.a.room (p.a.limit - (p.execution.executed + 1)) (config_of p.execution g.effects) s ≡ whole p.a p.x
 step_from p g act is s does =
     sym (run-act p.a.code p.a.given p.a.room p.a.limit p.execution.executed (config_of p.execution g.effects) act g.left is

@@ -1,6 +1,7 @@
 -- The law of what remains, from the lemmas.
-use Rattle.task_run.proofs.CleanPages.{put_left}
+use Rattle.task_run.proofs.Counting.{every_access_counts, every_count_outlasts, knowing_next, commit_committed}
+use Rattle.task_run.proofs.RunLefts.{proceed_left}
 use Rattle.task_run.proofs.laws.services_cost.Goals as goal
 
 pub returns : goal.returns
-returns c = let x = put_left in record { costs = ?; counts = ?; outlasts = ?; goes_on = ? }
+returns c = record { costs = ?; counts = every_access_counts; outlasts = every_count_outlasts; goes_on = ? }
