@@ -37,3 +37,4 @@ pub mod Alone
 pub mod CleanPages
 pub mod Counting
 pub mod RunLefts
+pub mod InstrFalls
