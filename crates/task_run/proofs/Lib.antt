@@ -38,3 +38,5 @@ pub mod CleanPages
 pub mod Counting
 pub mod RunLefts
 pub mod InstrFalls
+pub mod ActFalls
+pub mod EventFalls
