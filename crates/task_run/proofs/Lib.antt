@@ -40,3 +40,5 @@ pub mod RunLefts
 pub mod InstrFalls
 pub mod ActFalls
 pub mod EventFalls
+pub mod PickCosts
+pub mod Remains

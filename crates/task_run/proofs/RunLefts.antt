@@ -12,15 +12,18 @@ use Rattle.task_run.proofs.CleanPages.{left_is, left_same, plain_left, put_left,
 use Rattle.task_run.proofs.Runs.{IsAct, step_from, come_more}
 
 -- the same accesses and writes take the same copies
-copies_same : (x y : Spent) → x.accesses ≡ y.accesses → x.writes ≡ y.writes → with_copies x ≡ with_copies y
+pub copies_same : (x y : Spent) → x.accesses ≡ y.accesses → x.writes ≡ y.writes → with_copies x ≡ with_copies y
 copies_same x y accesses writes = rw (accesses, writes) refl
 
 -- before the first write all pages that are written are copied
-pub fresh_left : (commit : ℕ) (x : Rest) → x.behind ≡ 0 → left_in (no_writes commit) x ≡ with_copies x.spent
-fresh_left commit x none =
+pub fresh_rest : (commit : ℕ) (x : Rest) → left_in (no_writes commit) x ≡ with_copies x.spent + x.behind
+fresh_rest commit x =
     let pages = pages_fresh commit x.spent.writes in
     let all = left_is (no_writes commit) x in
     omega arith
+
+fresh_left : (commit : ℕ) (x : Rest) → x.behind ≡ 0 → left_in (no_writes commit) x ≡ with_copies x.spent
+fresh_left commit x none = let all = fresh_rest commit x in omega arith
 
 -- nothing is left but what is behind a trap
 left_behind : (b : Buffer) (n : ℕ) → b.copying ≡ Loading 0 → left_in b (record { spent = reads 0; behind = n }) ≡ n

@@ -1,8 +1,7 @@
 -- The law of what remains, from the lemmas.
-use Rattle.task_run.proofs.Counting.{every_access_counts, every_count_outlasts, knowing_next, commit_committed}
-use Rattle.task_run.proofs.ActFalls.{fall-read_state}
-use Rattle.task_run.proofs.EventFalls.{fall-first}
+use Rattle.task_run.proofs.Counting.{every_access_counts, every_count_outlasts}
+use Rattle.task_run.proofs.Remains.{every_pick_costs, every_service_goes_on}
 use Rattle.task_run.proofs.laws.services_cost.Goals as goal
 
 pub returns : goal.returns
-returns c = record { costs = ?; counts = every_access_counts; outlasts = every_count_outlasts; goes_on = ? }
+returns c = record { costs = every_pick_costs; counts = every_access_counts; outlasts = every_count_outlasts; goes_on = every_service_goes_on }
