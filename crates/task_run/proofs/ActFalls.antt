@@ -1,16 +1,16 @@
 -- Within an instruction each access is one of those that are left.
-use Rattle.task_run.proofs.Common.{◌≡◌, ℕ, suc, ◌+◌, ◌-◌, ◌/◌, ◌%◌, ◌^◌, ◌<◌, ◌≤◌, Bool, true, false, List, [], ◌∷◌, ◌++◌, length, get_or, set, nat_lt, lt-ltb, le-ltb, ltb-true, ltb-false, arith, refl, ap, ◌∙◌, sym, inl, inr, subst, cases_Bool, Memory, answer, working, Buffer, Loading, Program, Sent, Act, Loads, Saves, Puts, Sends, Arms, Stops, LogFull, Cpu, Config, GoesOn, HasTrapped, execute, advance, advance_with, has_room, sent_to, thread_def, pipe_def, IsAccepted, Pick, Model, pipe_of, HasShape, Saved, saved, StandsPrivate, Ending, Execution, Sending, ReadState, WriteState, ReadCount, StoreLog, WriteCount, LoadReader, LoadTaken, ReadWritten, StoreItem, WriteWritten, WriteArmed, WritePeriod, WriteStopped, TaskMachine, proceed, stepped, cpu_of, after, after_written, want, Assignment, assignment, whole, config_of, Told, told, RunningIn, Serving}
+use Rattle.task_run.proofs.Common.{◌≡◌, ℕ, suc, ◌+◌, ◌-◌, ◌%◌, ◌^◌, ◌<◌, ◌≤◌, true, false, List, [], ◌∷◌, ◌++◌, length, get_or, set, nat_lt, lt-ltb, le-ltb, ltb-true, ltb-false, arith, refl, ap, ◌∙◌, sym, inl, inr, subst, cases_Bool, Memory, answer, working, Buffer, Loading, Program, Sent, Act, Loads, Saves, Puts, Sends, Arms, Stops, LogFull, Cpu, Config, GoesOn, execute, advance, advance_with, has_room, sent_to, thread_def, pipe_def, IsAccepted, Pick, Model, pipe_of, HasShape, Saved, saved, Ending, Execution, Sending, ReadState, WriteState, ReadCount, StoreLog, WriteCount, LoadReader, LoadTaken, ReadWritten, StoreItem, WriteWritten, WriteArmed, WritePeriod, WriteStopped, TaskMachine, proceed, stepped, cpu_of, after, after_written, want, Assignment, assignment, whole, config_of, Told, told, RunningIn, Serving}
 use Rattle.ink_base.specs.declared.limits.TheConstants as limits
 use Rattle.fram_words.specs.Header as header
 use Rattle.event_pipe.specs.Ring as by_counts
 use Rattle.never_cut.specs.Cost.{reads}
-use Rattle.task_run.specs.kept.Left.{Rest, left_in, before, writing, behind_run, config_at, run_rest, act_rest, output_rest, send_rest, rest, left}
+use Rattle.task_run.specs.kept.Left.{Rest, left_in, before, writing, behind_run, config_at, run_rest, act_rest, send_rest, left}
 use Rattle.task_run.proofs.Accesses.{machine_at}
-use Rattle.task_run.proofs.CleanPages.{plain_left}
+use Rattle.task_run.proofs.PageFalls.{plain_left}
 use Rattle.task_run.proofs.InstrFalls.{Falls}
 use Rattle.task_run.proofs.Instrs.{state_is}
 use Rattle.task_run.proofs.Rooms.{has_sent, room_is, room_left}
-use Rattle.task_run.proofs.RunLefts.{config_now, nothing_left, proceed_left, trap_left, put_falls}
+use Rattle.task_run.proofs.RunLefts.{config_now, proceed_left, trap_left, put_falls}
 use Rattle.task_run.proofs.Runs.{IsAct, trap_from}
 use Rattle.task_run.proofs.States.{outputs_length}
 use Rattle.task_run.proofs.Words.{words-of_outputs, words-of_written}

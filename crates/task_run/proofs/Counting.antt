@@ -1,11 +1,11 @@
 -- What remains of a service, an access at a time: one less behind each, and the same whatever sources and clock do.
-use Rattle.task_run.proofs.Common.{◌≡◌, ℕ, zero, suc, ◌+◌, ◌/◌, ◌<◌, ◌==◌, Bool, true, false, cond, arith, refl, ap, ◌∙◌, sym, inl, inr, subst, false≢true, cases_Bool, Memory, Place, Access, Load, Store, store, perform, answer, Buffer, Copying, Loading, Storing, is_dirty, put_access, copy_access, Program, Pick, Model, Readings, SamePrivate, Background, Ending, Execution, Origin, Phase, Resume, StoreCommit, StoreAck, StoreEmpty, Over, TaskMachine, Action, Put, Get, Make, action, is_late, want, take, after_commit, release_phase, Knows, KnowsAt}
+use Rattle.task_run.proofs.Common.{◌≡◌, ℕ, zero, suc, ◌+◌, ◌/◌, ◌<◌, ◌==◌, true, false, cond, arith, refl, ap, ◌∙◌, sym, inl, inr, subst, false≢true, cases_Bool, Memory, Access, Load, Store, store, perform, answer, Buffer, Copying, Loading, Storing, is_dirty, put_access, copy_access, Program, Pick, Model, Readings, SamePrivate, Background, Ending, Execution, Origin, Phase, Resume, StoreCommit, StoreAck, StoreEmpty, Over, TaskMachine, Action, Put, Get, Make, action, is_late, want, take, after_commit, release_phase, Knows, KnowsAt}
 use Rattle.fram_words.specs.Places.{Exchange, Add, place_of, same_place}
 use Rattle.ink_base.specs.declared.event.Origin.TheVariants as origins
 use Rattle.never_cut.specs.kept.Actors.{IsPrivate}
 use Rattle.task_run.specs.declared.ending.Ending.TheVariants as endings
 use Rattle.task_run.specs.Actions as actions
-use Rattle.task_run.specs.Remaining.{Alone, next_alone, alone, is_committed, phase_after, IsRemaining, EveryAccessCounts, EveryCountOutlasts}
+use Rattle.task_run.specs.Remaining.{is_committed, phase_after, IsRemaining, EveryAccessCounts, EveryCountOutlasts}
 use Rattle.task_run.proofs.Accesses.{machine_at}
 use Rattle.task_run.proofs.Keeping.{IsBefore}
 use Rattle.task_run.proofs.Keeps.{every_task_commits}

@@ -1,5 +1,5 @@
 -- The accesses that write the event and the end of a service, and the commit, are those that are left.
-use Rattle.task_run.proofs.Common.{◌≡◌, ℕ, suc, ◌+◌, ◌*◌, ◌-◌, Bool, true, false, if◌then◌else◌, [], ◌∷◌, ◌++◌, arith, refl, ap, ◌∙◌, sym, inl, inr, subst, cases_Bool, Event, Origin, number_of, Code, Memory, answer, Buffer, Loading, Program, IsAccepted, Pick, Model, is_of_queue, Readings, IsSound, Saved, saved, StandsPrivate, Ending, Execution, Phase, WriteFirst, WriteOrigin, WriteValue, WriteTaken, ReadPeriod, WriteDue, Resume, Fetch, WriteNext, WriteFinished, ReadTotal, WriteTotal, WriteStamp, StoreCommit, TaskMachine, total_word, after_event, after_value, after_next, after_commit, end_phase, release_phase, want, Assignment, assignment, IsReady, Serving}
+use Rattle.task_run.proofs.Common.{◌≡◌, ℕ, suc, ◌+◌, Bool, true, false, if◌then◌else◌, [], ◌∷◌, ◌++◌, arith, refl, ap, ◌∙◌, sym, inl, inr, subst, cases_Bool, Event, Origin, number_of, Code, Memory, answer, Buffer, Program, IsAccepted, Pick, Model, is_of_queue, Readings, IsSound, Saved, saved, StandsPrivate, Ending, Execution, Phase, WriteFirst, WriteOrigin, WriteValue, WriteTaken, ReadPeriod, WriteDue, Resume, Fetch, WriteNext, WriteFinished, ReadTotal, WriteTotal, WriteStamp, StoreCommit, TaskMachine, total_word, after_event, after_value, after_commit, end_phase, release_phase, want, Assignment, assignment, IsReady, Serving}
 use Rattle.ink_base.specs.declared.event.Origin.TheVariants as origins
 use Rattle.fram_words.specs.Header as header
 use Rattle.never_cut.specs.Cost as costs
@@ -9,9 +9,8 @@ use Rattle.task_run.specs.Actions as actions
 use Rattle.task_run.specs.Machine as machine
 use Rattle.task_run.specs.kept.Left.{Rest, left_in, before, writing, consuming_rest, ending_rest, task_rest, run_rest, rest, left}
 use Rattle.task_run.proofs.Accesses.{machine_at, holding_load}
-use Rattle.task_run.proofs.CleanPages.{left_same, plain_left}
+use Rattle.task_run.proofs.PageFalls.{left_same, plain_left}
 use Rattle.task_run.proofs.InstrFalls.{Falls, fetch_falls}
-use Rattle.task_run.proofs.Instrs.{holding_end}
 use Rattle.task_run.proofs.Resumes.{late-running, goes_on}
 use Rattle.task_run.proofs.RunLefts.{put_falls}
 

@@ -1,18 +1,15 @@
 -- Each access of an instruction is one of those that are left.
-use Rattle.task_run.proofs.Common.{◌≡◌, ℕ, suc, ◌+◌, ◌-◌, ◌/◌, ◌%◌, ◌^◌, ◌<◌, ◌≤◌, Bool, true, false, cond, List, [], ◌∷◌, ◌++◌, length, get_or, set, nat_lt, lt-ltb, le-ltb, ltb-true, ltb-false, arith, refl, ap, ◌∙◌, sym, inl, inr, subst, cases_Bool, Code, Memory, answer, working, Buffer, Loading, put_access, Program, Sent, Act, Sets, Goes, Loads, Saves, Puts, Sends, Arms, Stops, Continues, Ends, Traps, TrapCode, Index, LogFull, Cpu, Effects, Config, Ended, GoesOn, IsOver, HasTrapped, act_of, execute, advance, advance_with, has_room, sent_to, decoded, thread_def, pipe_def, IsAccepted, Pick, Model, pipe_of, Readings, HasShape, IsSound, Saved, saved, StandsPrivate, Ending, Execution, Sending, Phase, Fetch, ReadState, WriteState, ReadCount, StoreLog, WriteCount, LoadReader, LoadTaken, ReadWritten, StoreItem, WriteWritten, WriteArmed, WritePeriod, WriteStopped, WriteNext, TaskMachine, trap, proceed, stepped, cpu_of, after, after_act, after_fetch, after_written, instr_of, want, take, Assignment, assignment, whole, config_of, IsTrap, Told, told, RunningIn, Serving}
-use Rattle.ink_base.specs.declared.limits.TheConstants as limits
+use Rattle.task_run.proofs.Common.{◌≡◌, ℕ, suc, ◌+◌, ◌%◌, ◌^◌, true, false, cond, List, [], ◌∷◌, ◌++◌, length, get_or, set, nat_lt, arith, refl, ap, ◌∙◌, sym, inl, inr, cases_Bool, Code, Memory, answer, Loading, Program, Sent, Act, Sets, Goes, Loads, Saves, Puts, Sends, Arms, Stops, Continues, Ends, Traps, TrapCode, Index, LogFull, Cpu, Config, GoesOn, IsOver, HasTrapped, act_of, execute, advance, advance_with, has_room, decoded, thread_def, IsAccepted, Model, Readings, IsSound, Saved, saved, StandsPrivate, Phase, ReadState, WriteState, TaskMachine, trap, proceed, stepped, cpu_of, after_act, after_fetch, instr_of, want, take, Assignment, assignment, whole, config_of, Told, told, RunningIn}
 use Rattle.fram_words.specs.Header as header
-use Rattle.event_pipe.specs.Ring as by_counts
 use Rattle.task_isa.specs.Meaning.{instr_at}
 use Rattle.task_isa.specs.declared.outcome.Outcome.TheVariants as outcomes
 use Rattle.never_cut.specs.Cost.{Spent, reads, acting}
-use Rattle.task_run.specs.declared.ending.Ending.TheVariants as endings
-use Rattle.task_run.specs.kept.Left.{Rest, left_in, before, writing, ending_rest, behind_run, config_at, run_rest, act_rest, rest, left}
-use Rattle.task_run.proofs.Accesses.{machine_at, Holding, holding_load}
+use Rattle.task_run.specs.kept.Left.{Rest, left_in, before, writing, ending_rest, behind_run, config_at, run_rest, left}
+use Rattle.task_run.proofs.Accesses.{Holding}
 use Rattle.task_run.proofs.Acts.{IsOwnTask, own_task}
-use Rattle.task_run.proofs.CleanPages.{left_same, plain_left}
+use Rattle.task_run.proofs.PageFalls.{left_same}
 use Rattle.task_run.proofs.Instrs.{state_is, fetched}
-use Rattle.task_run.proofs.RunLefts.{config_now, step_left, goes_left, nothing_left, proceed_left, trap_left, put_falls}
+use Rattle.task_run.proofs.RunLefts.{config_now, step_left, goes_left, nothing_left, proceed_left, trap_left}
 use Rattle.task_run.proofs.Runs.{IsAct, step_from, trap_from}
 
 -- an access is one of those that are left

@@ -34,7 +34,7 @@ pub mod Traps
 pub mod Words
 pub mod TaskWords
 pub mod Alone
-pub mod CleanPages
+pub mod PageFalls
 pub mod Counting
 pub mod RunLefts
 pub mod InstrFalls

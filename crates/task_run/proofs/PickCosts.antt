@@ -1,12 +1,12 @@
 -- What is left at a pick is what its task costs.
-use Rattle.task_run.proofs.Common.{◌≡◌, ℕ, ◌+◌, ◌-◌, ◌*◌, Bool, true, false, if◌then◌else◌, List, [], ◌∷◌, ◌++◌, arith, refl, ap, ◌∙◌, sym, inl, inr, append-nil, cases_Bool, Option, Some, None, Event, Origin, TaskId, Memory, no_writes, Program, RunEnd, Ended, Trapped, task_end, first_config, Pick, Model, ScanModel, ThreadModel, thread_of, is_running, pending, is_expired, end_at, Saved, saved, IsPicked, Ending, begin, first_phase, running_task, execution_of, WriteFirst, Resume, Assignment, assignment, whole}
+use Rattle.task_run.proofs.Common.{◌≡◌, ℕ, ◌+◌, ◌-◌, false, if◌then◌else◌, List, ◌++◌, arith, refl, ap, ◌∙◌, sym, inl, inr, append-nil, cases_Bool, Option, Some, None, Event, Origin, TaskId, Memory, no_writes, Program, RunEnd, Ended, Trapped, task_end, first_config, Pick, Model, ScanModel, ThreadModel, thread_of, is_running, pending, end_at, Saved, saved, IsPicked, begin, first_phase, running_task, execution_of, WriteFirst, Assignment, assignment, whole}
 use Rattle.ink_base.specs.declared.event.Origin.TheVariants as origins
 use Rattle.fram_words.specs.Header as header
 use Rattle.task_isa.specs.declared.outcome.Outcome.TheVariants as outcomes
 use Rattle.never_cut.specs.Cost as costs
 use Rattle.never_cut.specs.Cost.{Spent, reads, followed_by, with_copies, serving, cost, cost_of}
 use Rattle.task_run.specs.declared.ending.Ending.TheVariants as endings
-use Rattle.task_run.specs.kept.Left.{Rest, left_in, before, end_spent, ending_rest, start_spent, again, behind_run, run_spent, run_rest, rest, left}
+use Rattle.task_run.specs.kept.Left.{Rest, left_in, end_spent, ending_rest, start_spent, behind_run, run_spent, run_rest, rest, left}
 use Rattle.task_run.proofs.Resumes.{late-idle}
 use Rattle.task_run.proofs.RunLefts.{copies_same, fresh_rest}
 

@@ -1,11 +1,11 @@
 -- What remains of a service, up to the store of its commit word, is what is left of it by the meaning of its task.
-use Rattle.task_run.proofs.Common.{◌≡◌, ℕ, zero, suc, ◌+◌, ◌*◌, ◌-◌, ◌<◌, true, false, [], arith, refl, ap, ◌∙◌, sym, inl, inr, subst, false≢true, Memory, Buffer, Program, Pick, Model, Readings, Saved, saved, Background, Ending, Execution, Phase, WriteFirst, WriteOrigin, WriteValue, WriteTaken, ReadPeriod, WriteDue, Resume, Fetch, ReadState, WriteState, ReadCount, StoreLog, WriteCount, LoadReader, LoadTaken, ReadWritten, StoreItem, WriteWritten, WriteArmed, WritePeriod, WriteStopped, WriteNext, WriteFinished, ReadTotal, WriteTotal, WriteStamp, StoreCommit, StoreAck, StoreEmpty, Over, TaskMachine, begin, is_over, assignment, Assignment, KnowsAt, EveryTaskFits}
+use Rattle.task_run.proofs.Common.{◌≡◌, ℕ, zero, suc, true, false, arith, refl, ap, ◌∙◌, sym, inl, inr, subst, false≢true, Memory, Buffer, Program, Pick, Model, Readings, Saved, saved, Background, Ending, Execution, Phase, WriteFirst, WriteOrigin, WriteValue, WriteTaken, ReadPeriod, WriteDue, Resume, Fetch, ReadState, WriteState, ReadCount, StoreLog, WriteCount, LoadReader, LoadTaken, ReadWritten, StoreItem, WriteWritten, WriteArmed, WritePeriod, WriteStopped, WriteNext, WriteFinished, ReadTotal, WriteTotal, WriteStamp, StoreCommit, StoreAck, StoreEmpty, Over, TaskMachine, begin, is_over, assignment, Assignment, KnowsAt}
 use Rattle.std.specs.Prelude.{◌⊎◌}
-use Rattle.never_cut.specs.Cost.{reads, cost}
+use Rattle.never_cut.specs.Cost.{cost}
 use Rattle.never_cut.specs.Within.{Lasts}
 use Rattle.task_run.specs.Knows.{CanGoOn}
-use Rattle.task_run.specs.Remaining.{Alone, next_alone, alone, is_committed, phase_after, IsRemaining, GoesOnAlone, EveryPickCosts, EveryServiceGoesOn}
-use Rattle.task_run.specs.kept.Left.{clean_pages, copied, Rest, left_in, rest, left}
+use Rattle.task_run.specs.Remaining.{alone, is_committed, phase_after, IsRemaining, EveryPickCosts, EveryServiceGoesOn}
+use Rattle.task_run.specs.kept.Left.{clean_pages, left_in, rest, left}
 use Rattle.task_run.proofs.Accesses.{machine_at}
 use Rattle.task_run.proofs.ActFalls.{fall-read_state, fall-write_state, fall-read_count, fall-store_log, fall-write_count, fall-load_reader, fall-load_taken, fall-read_written, fall-store_item, fall-write_written, fall-write_armed, fall-write_period, fall-write_stopped}
 use Rattle.task_run.proofs.Begins.{every_pick}

@@ -1,14 +1,11 @@
 -- What is left of a service around one instruction of its run, and around a trap.
-use Rattle.task_run.proofs.Common.{◌≡◌, ℕ, suc, ◌+◌, ◌-◌, ◌*◌, ◌/◌, ◌<◌, ◌≤◌, Bool, true, false, cond, List, [], ◌∷◌, ◌++◌, nat_lt, ltb-false, append_assoc, arith, refl, ap, ◌∙◌, sym, inl, inr, subst, cases_Bool, Option, Some, None, Event, Origin, TaskId, Memory, Buffer, Loading, IsUnderWay, no_writes, is_dirty, after_copy, Program, Sent, Act, Given, Cpu, Room, Effects, Config, RunEnd, Ended, Trapped, Stepped, GoesOn, IsOver, HasTrapped, act_of, execute, run, first_config, config_after, task_def, Pick, Model, Saved, saved, Ending, Execution, Phase, WriteFirst, WriteNext, Fetch, TaskMachine, trap, phase_again, proceed, stepped, Assignment, assignment, whole, config_of, IsTrap, Told, told, RunningIn}
+use Rattle.task_run.proofs.Common.{◌≡◌, ℕ, suc, ◌+◌, ◌-◌, ◌/◌, ◌<◌, ◌≤◌, Bool, true, false, cond, List, ◌∷◌, nat_lt, ltb-false, append_assoc, arith, refl, ap, ◌∙◌, sym, inl, inr, subst, cases_Bool, Option, Some, None, Origin, TaskId, Memory, Buffer, Loading, IsUnderWay, no_writes, is_dirty, after_copy, Program, Sent, Act, Cpu, Config, RunEnd, Ended, Trapped, Stepped, GoesOn, IsOver, HasTrapped, act_of, execute, run, first_config, task_def, Pick, Model, Saved, saved, Execution, WriteFirst, WriteNext, TaskMachine, trap, phase_again, proceed, Assignment, assignment, whole, config_of, IsTrap, told, RunningIn}
 use Rattle.ink_base.specs.declared.event.Origin.TheVariants as origins
-use Rattle.task_isa.specs.declared.instr.Instr.{Instr}
-use Rattle.task_isa.specs.declared.outcome.Outcome.{Outcome}
 use Rattle.task_isa.specs.Meaning.{instr_at}
-use Rattle.never_cut.specs.Cost as costs
 use Rattle.never_cut.specs.Cost.{Spent, reads, followed_by, acting, running_on, with_copies}
 use Rattle.task_run.specs.declared.ending.Ending.TheVariants as endings
 use Rattle.task_run.specs.kept.Left.{clean_pages, copied, Rest, left_in, before, end_spent, start_spent, again, behind_run, going, config_at, run_spent, run_rest, rest, left}
-use Rattle.task_run.proofs.CleanPages.{left_is, left_same, plain_left, put_left, pages_fresh}
+use Rattle.task_run.proofs.PageFalls.{left_is, left_same, plain_left, put_left, pages_fresh}
 use Rattle.task_run.proofs.Runs.{IsAct, step_from, come_more}
 
 -- the same accesses and writes take the same copies

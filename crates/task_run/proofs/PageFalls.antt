@@ -1,5 +1,5 @@
 -- On how many clean pages words lie, and what an access takes off what is left.
-use Rattle.task_run.proofs.Common.{◌≡◌, ℕ, zero, suc, ◌+◌, ◌-◌, ◌*◌, ◌/◌, ◌<◌, ◌==◌, ◌||◌, Bool, true, false, cond, if◌then◌else◌, List, [], ◌∷◌, arith, refl, ap, ◌∙◌, sym, inl, inr, fun_ext, cases_Bool, cases_eq, eqb-true, eq-eqb, ne_eqb, bit_at, Memory, Buffer, Copying, Loading, Storing, IsCopied, IsUnderWay, no_writes, is_dirty, is_dirty-true, is_dirty-false, after_copy}
+use Rattle.task_run.proofs.Common.{◌≡◌, ℕ, suc, ◌+◌, ◌-◌, ◌*◌, ◌/◌, ◌<◌, ◌==◌, Bool, true, false, cond, List, [], ◌∷◌, arith, refl, ap, ◌∙◌, sym, inl, inr, fun_ext, cases_Bool, cases_eq, eqb-true, eq-eqb, ne_eqb, bit_at, Memory, Buffer, Copying, Loading, Storing, IsCopied, IsUnderWay, no_writes, is_dirty, is_dirty-true, is_dirty-false, after_copy}
 use Rattle.std.specs.List.{list_any}
 use Rattle.std.proofs.lemmas.Nat.Bits.{bit_at-zero}
 use Rattle.thread_state.proofs.Pages.{marked_same, marked_other}
