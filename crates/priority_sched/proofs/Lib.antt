@@ -14,3 +14,5 @@ pub mod Ranges
 pub mod Ends
 pub mod Drifts
 pub mod Alone
+pub mod Counts
+pub mod LeftFalls

@@ -1,5 +1,6 @@
 //! What a scan is for.
 
+ghost use Rattle.priority_sched.specs.Bounded.{EveryScanEnds};
 ghost use Rattle.priority_sched.specs.Laws.{ScanBegins, ScanKeeps, ScanDrifts, ScanEnds};
 
 /// A scan of any accepted program, from any words that stand for a state without finished events, and with any accesses of sources and
@@ -12,4 +13,10 @@ pub fn scan_picks()
     ensures keeps { ScanKeeps }
     ensures drifts { ScanDrifts }
     ensures ends { ScanEnds }
+{}
+
+/// How long a scan takes at most, of any program and whatever words it finds: from the load of the clock to the access that ends it, four
+/// words of each thread, three of each pipe, one of each timer, and two more of a pick.
+pub fn scans_end()
+    ensures ends { EveryScanEnds }
 {}

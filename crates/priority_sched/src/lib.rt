@@ -17,7 +17,7 @@ mod steps;
 
 pub use chain::Chain;
 pub use idle::{Idle, Waiting};
-pub use laws::scan_picks;
+pub use laws::{scan_picks, scans_end};
 pub use machine::ScanMachine;
 pub use scan_at::ScanAt;
 pub use scanned::Scanned;

@@ -3,3 +3,4 @@ pub mod Boots
 pub mod Drifts
 pub mod Ends
 pub mod Ranges
+pub mod LeftFalls

@@ -1,3 +1,5 @@
 pub mod Boot
+pub mod Bounded
 pub mod Knows
 pub mod Laws
+pub mod kept

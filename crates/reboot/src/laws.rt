@@ -1,5 +1,6 @@
 //! What a boot is for.
 
+ghost use Rattle.reboot.specs.Bounded.{EveryBootEnds};
 ghost use Rattle.reboot.specs.Laws.{BootBegins, BootKeeps, BootDrifts, BootShowsStamp, BootFindsOne, BootEnds};
 
 /// A boot of any accepted program, from any words that stand for a state, and with any accesses of sources and clock
@@ -13,4 +14,10 @@ pub fn boot_releases()
     ensures stamp { BootShowsStamp }
     ensures one { BootFindsOne }
     ensures ends { BootEnds }
+{}
+
+/// How long a boot takes at most, of any accepted program, from any words that stand for a state, and with any accesses of sources and
+/// clock between its own: four words of each thread, and the acknowledgement and the release of the one event that may be finished.
+pub fn boots_end()
+    ensures ends { EveryBootEnds }
 {}

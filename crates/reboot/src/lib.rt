@@ -6,5 +6,5 @@ mod laws;
 mod machine;
 
 pub use boot_at::BootAt;
-pub use laws::boot_releases;
+pub use laws::{boot_releases, boots_end};
 pub use machine::BootMachine;

@@ -42,3 +42,6 @@ pub mod ActFalls
 pub mod EventFalls
 pub mod PickCosts
 pub mod Remains
+pub mod CleanPages
+pub mod LeftFalls
+pub mod Bounded

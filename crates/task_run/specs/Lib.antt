@@ -3,6 +3,7 @@ pub mod Actions
 pub mod Machine
 pub mod Fits
 pub mod Reached
+pub mod Bounded
 pub mod Knows
 pub mod Remaining
 pub mod kept

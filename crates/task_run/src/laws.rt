@@ -1,5 +1,6 @@
 //! What a task leaves on a board.
 
+ghost use Rattle.task_run.specs.Bounded.{EveryServiceEnds};
 ghost use Rattle.task_run.specs.Knows.{EveryTaskCommits, EveryTaskOutlasts, EveryTaskFits, EveryPickBegins};
 ghost use Rattle.task_run.specs.Remaining.{EveryPickCosts, EveryAccessCounts, EveryCountOutlasts, EveryServiceGoesOn};
 
@@ -23,4 +24,11 @@ pub fn services_cost()
     ensures counts { EveryAccessCounts }
     ensures outlasts { EveryCountOutlasts }
     ensures goes_on { EveryServiceGoesOn }
+{}
+
+/// How long a service takes at most, for every accepted program and whatever words it finds, each in the range of its place: two copies
+/// of the pages of the thread's block, six accesses for each instruction that the task's limit allows, the event's words twice, and the
+/// end, the commit and the release.
+pub fn services_end()
+    ensures ends { EveryServiceEnds }
 {}

@@ -17,7 +17,7 @@ mod want;
 
 pub use ending::Ending;
 pub use execution::Execution;
-pub use laws::{services_cost, tasks_commit};
+pub use laws::{services_cost, services_end, tasks_commit};
 pub use machine::TaskMachine;
 pub use phase::Phase;
 pub use sending::Sending;
