@@ -45,3 +45,8 @@ pub mod Remains
 pub mod CleanPages
 pub mod LeftFalls
 pub mod Bounded
+pub mod AheadWords
+pub mod AheadSteps
+pub mod SamePicks
+pub mod LeftBounds
+pub mod Goes

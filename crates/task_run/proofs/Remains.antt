@@ -65,7 +65,7 @@ none_left a x pick b ending e Over over = omega arith
 none_left a x pick b ending e _ over = absurd (false≢true over)
 
 -- where a phase stands to the commit
-phase_kind : (phase : Phase) → (IsBefore phase) ⊎ ((phase ≡ StoreCommit) ⊎ (is_committed phase ≡ true))
+pub phase_kind : (phase : Phase) → (IsBefore phase) ⊎ ((phase ≡ StoreCommit) ⊎ (is_committed phase ≡ true))
 phase_kind StoreCommit = inr (inl refl)
 phase_kind (StoreAck source count) = inr (inr refl)
 phase_kind StoreEmpty = inr (inr refl)
@@ -80,7 +80,7 @@ before_alive Over before = absurd before
 before_alive _ before = refl
 
 -- behind the store of the commit word it is committed
-commit_next : (program : Program) (words : Memory) (r : TaskMachine) → r.phase ≡ StoreCommit → is_committed (machine_next program words r).phase ≡ true
+pub commit_next : (program : Program) (words : Memory) (r : TaskMachine) → r.phase ≡ StoreCommit → is_committed (machine_next program words r).phase ≡ true
 commit_next program words r is =
     subst (λ phase. is_committed (machine_next program words (record r { phase = phase })).phase ≡ true) (sym is) (commit_committed r.ending r.pick.event.origin)
 

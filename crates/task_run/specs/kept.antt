@@ -6,3 +6,4 @@ pub mod Serving
 pub mod Copies
 pub mod Left
 pub mod LeftMost
+pub mod Ahead

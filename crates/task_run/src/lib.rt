@@ -2,6 +2,7 @@
 #![tactic(auto)]
 
 mod acting;
+mod ahead;
 mod ending;
 mod execution;
 mod following;
@@ -11,6 +12,7 @@ mod page_of;
 mod parts;
 mod phase;
 mod pipe_at;
+mod remaining;
 mod sending;
 mod steps;
 mod want;
