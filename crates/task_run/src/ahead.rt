@@ -1,6 +1,6 @@
 //! A service that goes on ahead of its board.
 
-ghost use Rattle.std.specs.Prelude.{◌≡◌, ℕ, ◌+◌, ◌<◌, false, slice_index};
+ghost use Rattle.std.specs.Prelude.{◌≡◌, ℕ, ◌+◌, ◌<◌, length, slice_index};
 ghost use Rattle.prog_check.specs.Accepted.{IsAccepted};
 ghost use Rattle.fram_words.specs.Places as places;
 ghost use Rattle.fram_words.specs.Shape.{memory_of};
@@ -36,6 +36,7 @@ impl Ahead {
     pub(crate) fn begin(machine: &TaskMachine, plan: &Plan, fram: &Fram) -> Ahead
         requires { IsOnBoard plan.now.accepted (places.Page machine.now.pick.thread.0 0 0 0) }
         ensures machine { result.machine ≡ machine.now }
+        ensures size { length result.block ≡ BLOCK_WORDS }
         ensures block { (n : ℕ) → n < BLOCK_WORDS → slice_index result.block n ≡ slice_index fram.now (layout_address plan.now.layout (places.Page machine.now.pick.thread.0 0 0 0) + n) }
     {
         Ahead {
@@ -87,6 +88,7 @@ impl Ahead {
         requires fits { FitsTask plan.now.accepted self.old.machine }
         requires word { FitsWord plan.now.accepted self.old.machine.phase word }
         ensures registers { self.new.machine ≡ machine.take plan.now.accepted self.old.machine word }
+        ensures size { length self.new.block ≡ BLOCK_WORDS }
         ensures block { self.new.block ≡ kept_by self.old.machine.pick.thread.0 self.old.block (access_of step) }
     {
         self.keep(plan, step);
