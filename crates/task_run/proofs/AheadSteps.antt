@@ -1,6 +1,6 @@
 -- A machine that goes on ahead of its board finds what it would find there, and comes to the same registers.
-use Rattle.task_run.proofs.Common.{◌≡◌, ◌≢◌, ℕ, zero, suc, ◌+◌, ◌-◌, ◌*◌, ◌/◌, ◌%◌, ◌<◌, ◌==◌, Bool, true, false, cond, List, length, get_or, set, get_or-set_same, get_or-set_other, arith, refl, ap, ◌∙◌, sym, inl, inr, subst, eq-eqb, ne_eqb, false≢true, cases_Bool, cases_eq, Place, Code, Commit, Page, Log, Ring, Tail, Slot, Ack, Clock, Memory, Access, Load, Store, store, perform, answer, store-same, store-other, place_in, working_mask, Buffer, Copying, Loading, Storing, is_dirty, put_access, copy_access, after_copy, Program, IsAccepted, FitsTask, FitsWord, pages_of, thread_def, Phase, Resume, StoreCommit, StoreAck, StoreEmpty, Over, TaskMachine, Action, Put, Get, Make, action, want, take, after, after_action, is_late, bit_at, next_word, None, ReadPeriod, Fetch, ReadState, ReadCount, LoadReader, LoadTaken, ReadWritten, ReadTotal, if◌then◌else◌}
-use Rattle.fram_words.specs.Places.{Src, Exchange, Add, place_of}
+use Rattle.task_run.proofs.Common.{◌≡◌, ℕ, zero, suc, ◌-◌, ◌/◌, ◌%◌, ◌<◌, Bool, true, false, cond, List, length, get_or, set, get_or-set_same, get_or-set_other, arith, refl, ap, ◌∙◌, sym, inl, inr, subst, eq-eqb, ne_eqb, false≢true, cases_Bool, cases_eq, Place, Page, Log, Ring, Memory, Load, Store, store, perform, answer, store-same, store-other, place_in, working_mask, Buffer, Copying, Loading, Storing, is_dirty, put_access, copy_access, after_copy, Program, IsAccepted, FitsTask, FitsWord, pages_of, thread_def, Phase, Resume, StoreCommit, StoreAck, StoreEmpty, Over, TaskMachine, Action, Put, Get, Make, action, want, take, after, after_action, is_late, bit_at, next_word, None, ReadPeriod, Fetch, ReadState, ReadCount, LoadReader, LoadTaken, ReadWritten, ReadTotal, if◌then◌else◌}
+use Rattle.fram_words.specs.Places.{Exchange, Add, place_of}
 use Rattle.ink_layout.specs.Shape.{IsOnBoard}
 use Rattle.fram_words.specs.Header as header
 use Rattle.task_run.specs.Actions as actions

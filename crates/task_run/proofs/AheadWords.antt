@@ -1,5 +1,5 @@
 -- The words that a machine finds that goes on ahead of its board.
-use Rattle.task_run.proofs.Common.{◌≡◌, ℕ, ◌+◌, ◌*◌, ◌<◌, ◌≤◌, List, length, get_or, arith, refl, ap, ◌∙◌, sym, ◌≢◌, ne_eqb, Place, Page, Memory, Program, IsAccepted, thread_def, pages_of}
+use Rattle.task_run.proofs.Common.{◌≡◌, ℕ, ◌+◌, ◌<◌, ◌≤◌, List, length, get_or, arith, refl, ap, ◌∙◌, sym, ◌≢◌, ne_eqb, Place, Page, Memory, Program, IsAccepted, thread_def, pages_of}
 use Rattle.ink_base.specs.declared.limits.TheConstants as limits
 use Rattle.fram_words.specs.declared.layout.Layout.{Layout}
 use Rattle.fram_words.specs.declared.place.Place as declared

@@ -1,12 +1,11 @@
 -- A machine that goes on ahead of its board makes the accesses of the machine alone.
-use Rattle.task_run.proofs.Common.{◌≡◌, ℕ, suc, ◌+◌, ◌<◌, ◌≤◌, true, false, List, length, arith, refl, ap, ◌∙◌, sym, inl, inr, subst, false≢true, cases_eq, Memory, perform, answer, Program, IsAccepted, Pick, TaskMachine, want, take, FitsTask, FitsWord}
+use Rattle.task_run.proofs.Common.{◌≡◌, ℕ, ◌+◌, false, List, length, arith, ap, ◌∙◌, sym, inl, inr, subst, false≢true, cases_eq, Memory, perform, answer, Program, IsAccepted, Pick, TaskMachine, want, take, FitsTask, FitsWord}
 use Rattle.std.proofs.Common.{add-one}
 use Rattle.fram_words.specs.Places.{place_of}
 use Rattle.ink_layout.specs.Shape.{IsOnBoard}
 use Rattle.task_run.specs.Knows.{CanGoOn}
-use Rattle.task_run.specs.Remaining.{Alone, next_alone, alone, is_committed, phase_after, GoesOnAlone}
+use Rattle.task_run.specs.Remaining.{Alone, next_alone, alone, is_committed, GoesOnAlone}
 use Rattle.task_run.specs.kept.Ahead.{found_by, kept_by, IsAhead, GoesAhead}
-use Rattle.task_run.specs.kept.LeftMost.{left_most}
 use Rattle.task_run.proofs.AheadSteps.{alone_more, takes_same, stays_ahead, fits_ahead, access_lowers}
 use Rattle.task_run.proofs.Remains.{phase_kind, commit_next}
 use Rattle.task_run.proofs.SamePicks.{take_pick}

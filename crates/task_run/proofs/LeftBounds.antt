@@ -1,5 +1,5 @@
 -- What is left of a service at most is far below 2^32.
-use Rattle.task_run.proofs.Common.{◌≡◌, ℕ, zero, suc, ◌+◌, ◌-◌, ◌*◌, ◌<◌, ◌≤◌, length, arith, refl, ap, inl, inr, cases_eq, cases_lt, eq-eqb, ne_eqb, bit_at, get_or_past, Program, Task, IsAccepted, thread_def, task_def, first_task, no_task_def, Pick, Buffer, Ending, Execution, Phase, WriteFirst, WriteOrigin, WriteValue, WriteTaken, ReadPeriod, WriteDue, TaskMachine}
+use Rattle.task_run.proofs.Common.{◌≡◌, ℕ, zero, suc, ◌<◌, ◌≤◌, length, arith, ap, inl, inr, cases_eq, cases_lt, eq-eqb, ne_eqb, bit_at, get_or_past, Program, Task, IsAccepted, thread_def, task_def, first_task, no_task_def, Pick, Buffer, Ending, Execution, Phase, WriteFirst, WriteOrigin, WriteValue, WriteTaken, ReadPeriod, WriteDue, TaskMachine}
 use Rattle.ink_base.specs.declared.limits.TheConstants as limits
 use Rattle.task_run.specs.declared.ending.Ending.TheVariants as endings
 use Rattle.task_run.specs.kept.LeftMost.{clean_pages, block_pages, behind_event, left_in, left_most}

@@ -1,5 +1,5 @@
 -- A service keeps its pick.
-use Rattle.task_run.proofs.Common.{◌≡◌, ℕ, ◌+◌, Bool, true, false, cond, refl, nat_lt, Origin, Act, Sets, Goes, Loads, Saves, Puts, Sends, Arms, Stops, Continues, Ends, Traps, Program, Cpu, act_of, decoded, thread_def, task_def, pipe_def, Pick, Ending, Sending, Phase, WriteFirst, WriteOrigin, WriteValue, WriteTaken, ReadPeriod, WriteDue, Resume, Fetch, ReadState, WriteState, ReadCount, StoreLog, WriteCount, LoadReader, LoadTaken, ReadWritten, StoreItem, WriteWritten, WriteArmed, WritePeriod, WriteStopped, WriteNext, WriteFinished, ReadTotal, WriteTotal, WriteStamp, StoreCommit, StoreAck, StoreEmpty, Over, TaskMachine, Action, Put, Get, Make, action, is_late, given_by, cpu_of, take, after, after_act, after_action, after_event, after_fetch, after_value, after_written, instr_of, proceed}
+use Rattle.task_run.proofs.Common.{◌≡◌, ℕ, ◌+◌, Bool, true, false, cond, refl, nat_lt, Origin, Act, Sets, Goes, Loads, Saves, Puts, Sends, Arms, Stops, Continues, Ends, Traps, Program, Cpu, act_of, decoded, thread_def, task_def, Pick, Ending, Sending, Phase, WriteValue, WriteTaken, WriteDue, Resume, Fetch, ReadState, WriteState, ReadCount, WriteCount, ReadWritten, WriteWritten, WritePeriod, WriteStopped, TaskMachine, Action, Put, Get, Make, action, is_late, given_by, cpu_of, take, after, after_act, after_action, after_event, after_value, after_written, instr_of, proceed}
 use Rattle.ink_base.specs.declared.event.Origin.TheVariants as origins
 use Rattle.task_run.specs.declared.ending.Ending.TheVariants as endings
 use Rattle.task_run.specs.Machine.{after_resume}

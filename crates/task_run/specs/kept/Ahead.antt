@@ -1,6 +1,6 @@
 -- The words that a machine finds that goes on ahead of its board: those of its thread's block are kept beside the board.
 use Rattle.std.specs.Prelude.{◌≡◌, ◌≢◌, ℕ, ◌+◌, ◌*◌, ◌<◌, ◌≤◌, ◌==◌, false, if◌then◌else◌, List, slice_index, slice_set}
-use Rattle.fram_words.specs.Places.{Place, Code, Commit, Page, Log, Ring, Tail, Slot, Ack, Clock, Src, Memory, Access, Load, Store, Exchange, Add}
+use Rattle.fram_words.specs.Places.{Place, Page, Log, Ring, Memory, Access, Load, Store}
 use Rattle.task_isa.specs.declared.program.Program.{Program}
 use Rattle.prog_check.specs.Lookup.{thread_def}
 use Rattle.ink_layout.specs.Shape.{pages_of}

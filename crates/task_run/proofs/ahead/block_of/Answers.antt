@@ -1,6 +1,5 @@
 -- The addresses are the board's, which are few.
-use Rattle.task_run.proofs.Common.{ℕ, ◌+◌, ◌<◌, arith}
-use Rattle.ink_base.specs.declared.limits.TheConstants as limits
+use Rattle.task_run.proofs.Common.{arith}
 use Rattle.fram_words.specs.Places as places
 use Rattle.ink_layout.proofs.Below.{address_below}
 use Rattle.task_run.proofs.ahead.block_of.Goals as goal

@@ -1,15 +1,15 @@
 -- The machine ahead makes the accesses of the machine alone.
-use Rattle.task_run.proofs.Common.{◌≡◌, ℕ, ◌+◌, ◌<◌, ◌≤◌, false, length, arith, refl, sym, ap, subst, ◌∙◌, Memory, Pick, TaskMachine, want, take}
+use Rattle.task_run.proofs.Common.{◌≡◌, ◌+◌, ◌<◌, false, arith, sym, ap, subst, ◌∙◌, Memory, TaskMachine, want, take}
 use Rattle.fram_words.specs.Shape.{memory_of}
 use Rattle.fram_words.specs.Places.{place_of}
 use Rattle.ink_layout.specs.Shape.{IsOnBoard, shape_of}
 use Rattle.task_run.specs.Remaining.{is_committed}
-use Rattle.task_run.specs.kept.Ahead.{found_by, kept_by, IsAhead, GoesAhead}
+use Rattle.task_run.specs.kept.Ahead.{found_by, kept_by, GoesAhead}
 use Rattle.task_run.specs.kept.LeftMost.{left_most}
 use Rattle.task_run.proofs.AheadSteps.{access_lowers}
 use Rattle.task_run.proofs.AheadWords.{begins_ahead}
 use Rattle.task_run.proofs.LeftBounds.{left_few}
-use Rattle.task_run.proofs.Goes.{fits_now, word_fits, goes_next}
+use Rattle.task_run.proofs.Goes.{fits_now, goes_next}
 use Rattle.task_run.proofs.machine.TaskMachine.remaining.Goals as goal
 
 pub begin-ahead-requires : goal.begin-ahead-requires
