@@ -50,3 +50,4 @@ pub mod AheadSteps
 pub mod SamePicks
 pub mod LeftBounds
 pub mod Goes
+pub mod LastAccesses

@@ -2,6 +2,7 @@
 use Rattle.std.specs.Prelude.{◌≡◌, ℕ, zero, suc, ◌<◌, Bool, true, false}
 use Rattle.fram_words.specs.Places.{Memory, perform, answer}
 use Rattle.task_isa.specs.declared.program.Program.{Program}
+use Rattle.ink_layout.specs.declared.kernel_point.KernelPoint.TheVariants as points
 use Rattle.ink_layout.specs.declared.pick.Pick.{Pick}
 use Rattle.never_cut.specs.declared.model.Model.{Model}
 use Rattle.never_cut.specs.Cost.{cost}
@@ -13,7 +14,7 @@ use Rattle.never_cut.specs.kept.Steps.{Background}
 use Rattle.task_run.specs.declared.phase.Phase.{Phase}
 use Rattle.task_run.specs.declared.phase.Phase.TheVariants.{StoreAck, StoreEmpty, Over}
 use Rattle.task_run.specs.declared.machine.TaskMachine.{TaskMachine}
-use Rattle.task_run.specs.Machine.{want, take, begin}
+use Rattle.task_run.specs.Machine.{want, take, point, begin}
 use Rattle.task_run.specs.Knows.{Knows, CanGoOn}
 
 -- the words of a board, and the registers of the machine that makes accesses to them
@@ -64,6 +65,14 @@ abbrev pub EveryAccessCounts : Type 0
 EveryAccessCounts =
     (program : Program) (words : Memory) (r : TaskMachine) (n : ℕ) →
     IsRemaining program words r (suc n) → IsRemaining program (perform words (want program r)) (take program r (answer words (want program r))) n
+
+-- The last access that remains is the commit ..
+abbrev pub EveryLastCommits : Type 0
+EveryLastCommits = (program : Program) (words : Memory) (r : TaskMachine) → IsRemaining program words r 1 → point r ≡ points.Commit r.pick.thread
+
+-- .. and no earlier one is.
+abbrev pub EveryCommitIsLast : Type 0
+EveryCommitIsLast = (program : Program) (words : Memory) (r : TaskMachine) (n : ℕ) → IsRemaining program words r n → point r ≡ points.Commit r.pick.thread → n ≡ 1
 
 -- What sources and clock do meanwhile doesn't change what remains.
 abbrev pub EveryCountOutlasts : Type 0
