@@ -1,7 +1,7 @@
 -- A journal over charges: an entry is noted in the charge at hand.
 use Rattle.kernel_core.proofs.Common.{◌≡◌, ◌≢◌, ℕ, zero, suc, ◌-◌, ◌<◌, ◌≤◌, List, [], ◌∷◌, ◌++◌, length, set, Option, Some, None, refl, sym, ap, ◌∙◌, subst, arith, append-nil, append_assoc, get_or-set_other, Entry, noted, ChargeRecord, journal_of, charge_of, not_begun, Setup, Board, journal, charged, HasSize}
 
-noted-behind : (xs ys : List Entry) (o : Option Entry) → xs ++ noted ys o ≡ noted (xs ++ ys) o
+pub noted-behind : (xs ys : List Entry) (o : Option Entry) → xs ++ noted ys o ≡ noted (xs ++ ys) o
 noted-behind xs ys None = refl
 noted-behind xs ys (Some e) = sym (append_assoc xs ys (e ∷ []))
 

@@ -29,3 +29,8 @@ pub mod Growth
 pub mod Scanned
 pub mod Settling
 pub mod RunRecords
+pub mod Answers
+pub mod Paces
+pub mod KernelPaces
+pub mod PacedCharges
+pub mod Paced

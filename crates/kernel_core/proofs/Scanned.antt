@@ -14,7 +14,7 @@ abbrev HasScan : List Entry → Type 0
 HasScan es = (j : ℕ) × (j < length es) × (entry_at es j ≡ entries.Scan)
 
 -- an entry stays where it is
-stays : (es : List Entry) (e : Entry) (j : ℕ) → j < length es → entry_at (es ++ e ∷ []) j ≡ entry_at es j
+pub stays : (es : List Entry) (e : Entry) (j : ℕ) → j < length es → entry_at (es ++ e ∷ []) j ≡ entry_at es j
 stays [] e j lt = absurd (omega arith)
 stays (x ∷ es) e zero lt = refl
 stays (x ∷ es) e (suc j) lt = stays es e j (omega arith)

@@ -81,7 +81,7 @@ kernel_clock s m (points.Commit t) = commit_clock s m t.0
 kernel_clock s m (points.Release t) = refl
 
 -- the kernel's turn where its access finds this word
-abbrev turned : Setup → Board → ℕ → Board
+abbrev pub turned : Setup → Board → ℕ → Board
 turned s b word =
     record {
       words = performed (kernel_access s b) b.words;

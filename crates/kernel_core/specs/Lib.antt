@@ -11,6 +11,7 @@ pub mod Reached
 pub mod Listed
 pub mod Made
 pub mod Scanned
+pub mod Answered
 pub mod Settling
 pub mod RunRecords
 pub mod kept

@@ -1,5 +1,6 @@
 //! What a run of the board keeps.
 
+ghost use Rattle.kernel_core.specs.Answered.{EveryChargePaced};
 ghost use Rattle.kernel_core.specs.Moves.{EveryPrefixStands, ImagePrefixesStand, OneIsFinished};
 ghost use Rattle.kernel_core.specs.Scanned.{EveryCommitScanned};
 
@@ -14,4 +15,12 @@ pub fn boards_stand()
     ensures image { ImagePrefixesStand }
     ensures finished { OneIsFinished }
     ensures scanned { EveryCommitScanned }
+{}
+
+/// The size of a charge, for every accepted program, any readings within the limits, any first words that stand for a state at which a
+/// run can begin, and every order of turns of sources, clock and kernel and of cuts. A charge with the kernel accesses of a boot and of
+/// so many rounds has as many answered scans: before the next scan a commit follows, or looks at all threads follow after which none has
+/// a pending event. A charge with more than those of a boot has a scan.
+pub fn charges_answer()
+    ensures paced { EveryChargePaced }
 {}

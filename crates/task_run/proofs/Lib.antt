@@ -51,3 +51,4 @@ pub mod SamePicks
 pub mod LeftBounds
 pub mod Goes
 pub mod LastAccesses
+pub mod Opens
