@@ -34,3 +34,4 @@ pub mod Paces
 pub mod KernelPaces
 pub mod PacedCharges
 pub mod Paced
+pub mod Costed
