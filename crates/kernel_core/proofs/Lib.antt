@@ -40,3 +40,4 @@ pub mod Paces
 pub mod KernelPaces
 pub mod PacedCharges
 pub mod Paced
+pub mod Costed

@@ -12,6 +12,7 @@ pub mod Listed
 pub mod Made
 pub mod Scanned
 pub mod Answered
+pub mod Costed
 pub mod Settling
 pub mod Settled
 pub mod RunRecords

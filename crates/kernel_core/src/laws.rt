@@ -1,6 +1,7 @@
 //! What a run of the board keeps.
 
 ghost use Rattle.kernel_core.specs.Answered.{EveryChargePaced};
+ghost use Rattle.kernel_core.specs.Costed.{EveryPickCommits};
 ghost use Rattle.kernel_core.specs.Moves.{EveryPrefixStands, ImagePrefixesStand, OneIsFinished};
 ghost use Rattle.kernel_core.specs.Scanned.{EveryCommitScanned};
 ghost use Rattle.kernel_core.specs.Settled.{SourcesSettle};
@@ -29,4 +30,11 @@ pub fn boards_stand()
 /// a pending event. A charge with more than those of a boot has a scan.
 pub fn charges_answer()
     ensures paced { EveryChargePaced }
+{}
+
+/// When a pick commits, under the same conditions. Where a scan has ended with the pick of a thread, as many accesses of the kernel in the
+/// same charge remain as the service costs by the meaning of its task, whatever turns of sources and clock lie between; the commit is the
+/// last of them. `TaskMachine::remaining` tells how many are left.
+pub fn picks_commit()
+    ensures commits { EveryPickCommits }
 {}

@@ -14,7 +14,7 @@ mod start;
 pub use board::Core;
 pub use charge_record::ChargeRecord;
 pub use kernel::Kernel;
-pub use laws::{boards_stand, charges_answer};
+pub use laws::{boards_stand, charges_answer, picks_commit};
 pub use made::Made;
 pub use run_record::RunRecord;
 pub use start::prepare;

@@ -1,5 +1,5 @@
 -- The service of a pick that finds words in the ranges of their places stays within its own.
-use Rattle.task_run.proofs.Common.{◌≡◌, ℕ, ◌+◌, ◌-◌, ◌/◌, ◌%◌, ◌^◌, ◌<◌, ◌≤◌, false, length, Option, Some, None, arith, refl, sym, inl, inr, subst, lt-ltb, le-ltb, false≢true, cases_Bool, cases_lt, TaskId, Origin, FitsOrigin, Buffer, is_dirty, after_copy, no_writes, Act, Sets, Goes, Loads, Saves, Puts, Sends, Arms, Stops, Continues, Ends, Traps, Program, Cpu, number_of, advance, advance_with, decoded, IsAccepted, thread_def, pipe_def, task_def, instr_at, first_task, Pick, Ending, Execution, Sending, Phase, WriteFirst, WriteOrigin, WriteValue, WriteTaken, ReadPeriod, WriteDue, Resume, Fetch, ReadState, WriteState, ReadCount, StoreLog, WriteCount, LoadReader, LoadTaken, ReadWritten, StoreItem, WriteWritten, WriteArmed, WritePeriod, WriteStopped, WriteNext, WriteFinished, ReadTotal, WriteTotal, WriteStamp, StoreCommit, StoreAck, StoreEmpty, Over, TaskMachine, Action, Put, Get, Make, action, want, take, after, after_action, after_act, after_fetch, after_event, after_value, after_written, after_next, after_commit, release_phase, end_phase, phase_again, first_phase, running_task, begin, proceed, stepped, trap, instr_of, cpu_of, given_by, execution_of, is_late, is_over, FitsExecution, FitsChain, FitsPhase, IsOfPipe, IsOfTimer, task_loaded, IsPhaseOf, IsServiceOf}
+use Rattle.task_run.proofs.Common.{◌≡◌, ℕ, ◌+◌, ◌/◌, ◌%◌, ◌^◌, ◌<◌, ◌≤◌, false, length, Option, Some, None, arith, refl, sym, inl, inr, subst, lt-ltb, le-ltb, false≢true, cases_Bool, cases_lt, TaskId, Origin, FitsOrigin, Buffer, is_dirty, after_copy, no_writes, Act, Sets, Goes, Loads, Saves, Puts, Sends, Arms, Stops, Continues, Ends, Traps, Program, Cpu, number_of, advance, advance_with, decoded, IsAccepted, thread_def, pipe_def, task_def, instr_at, first_task, Pick, Ending, Execution, Sending, Phase, WriteFirst, WriteOrigin, WriteValue, WriteTaken, ReadPeriod, WriteDue, Resume, Fetch, ReadState, WriteState, ReadCount, StoreLog, WriteCount, LoadReader, LoadTaken, ReadWritten, StoreItem, WriteWritten, WriteArmed, WritePeriod, WriteStopped, WriteNext, WriteFinished, ReadTotal, WriteTotal, WriteStamp, StoreCommit, StoreAck, StoreEmpty, Over, TaskMachine, Action, Put, Get, Make, action, want, take, after, after_action, after_act, after_fetch, after_event, after_value, after_written, after_next, after_commit, release_phase, end_phase, phase_again, first_phase, running_task, begin, proceed, stepped, trap, instr_of, cpu_of, given_by, execution_of, is_late, is_over, FitsExecution, FitsChain, FitsPhase, IsOfPipe, IsOfTimer, task_loaded, IsPhaseOf, IsServiceOf}
 use Rattle.ink_base.specs.declared.limits.TheConstants as limits
 use Rattle.push_core.specs.Table.{greatest_tail}
 use Rattle.task_run.specs.Reached.{GoesOn}

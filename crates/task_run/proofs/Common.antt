@@ -67,6 +67,7 @@ pub use Rattle.task_run.specs.declared.machine.TaskMachine.{TaskMachine}
 pub use Rattle.task_run.specs.declared.phase.Phase.{Phase}
 pub use Rattle.task_run.specs.declared.phase.Phase.TheVariants.{Fetch, LoadReader, LoadTaken, Over, ReadCount, ReadPeriod, ReadState, ReadTotal, ReadWritten, Resume, StoreAck, StoreCommit, StoreEmpty, StoreItem, StoreLog, WriteArmed, WriteCount, WriteDue, WriteFinished, WriteFirst, WriteNext, WriteOrigin, WritePeriod, WriteStamp, WriteState, WriteStopped, WriteTaken, WriteTotal, WriteValue, WriteWritten}
 pub use Rattle.task_run.specs.declared.sending.Sending.{Sending}
+pub use Rattle.task_run.specs.kept.Trace.{config_after}
 pub use Rattle.task_run.specs.kept.Served.{Again, AreSent, Assignment, Before, IsEnd, IsEndOf, IsLast, IsTrap, assignment, begun, changed, concluded, config_of, consumed, counted, due_with, effects_of, end_of, finish, finished_by, period_by, period_with, rested, result, rings_of, served, total_of, whole, with_effects, with_total, worked, written_with}
 pub use Rattle.task_run.specs.kept.Progress.{Beginning, Finishing, IsOfPipe, IsOfTimer, RunningIn, SendingTo, Told, with_due, worked_in}
 pub use Rattle.task_run.specs.kept.Serving.{IsReady, Progress, Serving, told}

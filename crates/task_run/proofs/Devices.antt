@@ -1,5 +1,5 @@
 -- The accesses that consume the event of a pipe or a timer.
-use Rattle.task_run.proofs.Common.{◌≡◌, ℕ, ◌+◌, ◌*◌, ◌<◌, arith, refl, ap, ◌∙◌, sym, subst, Memory, store, origin_word, place_in, working, working_mask, Buffer, Origin, after_service, Program, IsAccepted, Pick, Model, Readings, IsSound, Saved, saved, Begins, picked_begins, Ending, Execution, WriteTaken, ReadPeriod, WriteDue, TaskMachine, after_event, changed, with_due, Serving}
+use Rattle.task_run.proofs.Common.{◌≡◌, ℕ, ◌+◌, ◌<◌, arith, refl, ap, ◌∙◌, sym, subst, Memory, store, origin_word, place_in, working, working_mask, Buffer, Origin, after_service, Program, IsAccepted, Pick, Model, Readings, IsSound, Saved, saved, Begins, picked_begins, Ending, Execution, WriteTaken, ReadPeriod, WriteDue, TaskMachine, after_event, changed, with_due, Serving}
 use Rattle.ink_base.specs.declared.limits.TheConstants as limits
 use Rattle.fram_words.specs.Header as header
 use Rattle.ink_base.specs.declared.event.Origin.TheVariants as origins

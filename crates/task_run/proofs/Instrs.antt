@@ -76,7 +76,7 @@ module _ (program : Program) (m : Model) (words : Memory) (r : TaskMachine) (y :
   begin_serving (Traps code) is lands = traps_serving (Traps code) is code refl
 
   -- the word that is fetched is the next instruction's
-  fetched : IsAccepted program → IsOwnTask program r.pick.thread.0 (assignment program m r.pick).task →
+  pub fetched : IsAccepted program → IsOwnTask program r.pick.thread.0 (assignment program m r.pick).task →
       decoded (words (Code r.execution.task.0 r.execution.at)) ≡ Some (instr_at (assignment program m r.pick).code r.execution.at)
   fetched accepted known =
       let a : Assignment = assignment program m r.pick in

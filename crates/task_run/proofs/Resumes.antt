@@ -74,7 +74,7 @@ module _ (program : Program) (readings : Readings) (m : Model) (words : Memory) 
       }
 
   -- the first instruction of the next task
-  goes_on : late ≡ false → RunningIn (told program m r h.y h.sends h.s h.o h.v)
+  pub goes_on : late ≡ false → RunningIn (told program m r h.y h.sends h.s h.o h.v)
   goes_on is =
       let task : TaskId = h.progress.0 in
       let start = start_running program readings m pick stamp task h.y h.sends h.s h.o h.v accepted sound h.picked.known

@@ -1,7 +1,9 @@
 -- One instruction of a run.
-use Rattle.task_run.proofs.Common.{◌≡◌, ℕ, suc, ◌+◌, ◌-◌, ◌<◌, ◌≤◌, List, length, get_or, arith, refl, ap, ◌∙◌, sym, subst, Instr, Act, TrapCode, Sent, Given, Cpu, act_of, Effects, Config, Room, RunEnd, Ended, Trapped, Stepped, GoesOn, IsOver, HasTrapped, execute, run, task_end, sent_to, Saved, Ending, cpu_of, stepped, whole, begun, with_effects, effects_of, result, config_of, Told, RunningIn, worked_in, Finishing, IsTrap, IsEndOf}
+use Rattle.task_run.proofs.Common.{◌≡◌, ℕ, suc, ◌+◌, ◌-◌, ◌<◌, ◌≤◌, List, length, get_or, arith, refl, ap, ◌∙◌, sym, subst, Instr, Act, TrapCode, Sent, Given, Cpu, act_of, Effects, Config, Room, RunEnd, Ended, Trapped, Stepped, GoesOn, IsOver, HasTrapped, execute, run, task_end, first_config, config_after, sent_to, Saved, Ending, cpu_of, stepped, whole, begun, with_effects, effects_of, result, config_of, Told, RunningIn, worked_in, Finishing, IsTrap, IsEndOf}
+use Rattle.std.proofs.Common.{add-one}
 use Rattle.task_isa.specs.Meaning.{instr_at}
 use Rattle.task_isa.specs.declared.outcome.Outcome.{Outcome}
+use Rattle.task_run.specs.kept.Trace.{one_more}
 use Rattle.task_run.proofs.Traps.{Going, end-early}
 
 -- how a run goes on after one instruction
@@ -34,12 +36,21 @@ abbrev pub IsAct : Told → Act → Type 0
 IsAct p act = act_of (instr_at p.a.code p.execution.at) p.a.given (cpu_of p.execution) ≡ act
 
 -- what the rest of the run is after this act
-step_from : (p : Told) (g : RunningIn p) (act : Act) → IsAct p act → (s : Stepped) → execute act p.a.given p.a.room (config_of p.execution g.effects) ≡ s →
+pub step_from : (p : Told) (g : RunningIn p) (act : Act) → IsAct p act → (s : Stepped) → execute act p.a.given p.a.room (config_of p.execution g.effects) ≡ s →
     rest_of p.a.code p.a.given p.a.room (p.a.limit - (p.execution.executed + 1)) (config_of p.execution g.effects) s ≡ whole p.a p.x
 step_from p g act is s does =
     sym (run-act p.a.code p.a.given p.a.room p.a.limit p.execution.executed (config_of p.execution g.effects) act g.left is
     ∙ ap (λ j. rest_of p.a.code p.a.given p.a.room (p.a.limit - (p.execution.executed + 1)) (config_of p.execution g.effects) j) does)
     ∙ g.rest
+
+-- and what it has come to
+pub come_more : (p : Told) (g : RunningIn p) (act : Act) → IsAct p act → (s : Stepped) → execute act p.a.given p.a.room (config_of p.execution g.effects) ≡ s →
+    config_after p.a.code p.a.given p.a.room (p.execution.executed + 1) (first_config p.x.state) ≡ s
+come_more p g act is s does =
+    ap (λ k. config_after p.a.code p.a.given p.a.room k (first_config p.x.state)) (add-one p.execution.executed)
+    ∙ ap (λ c. one_more p.a.code p.a.given p.a.room c) g.come
+    ∙ ap (λ j. execute j p.a.given p.a.room (config_of p.execution g.effects)) is
+    ∙ does
 
 pub going_from : (p : Told) (g : RunningIn p) (act : Act) → IsAct p act → (cpu : Cpu) (z : Saved) (sends : List Sent) (effects : Effects) →
     execute act p.a.given p.a.room (config_of p.execution g.effects) ≡ GoesOn (config_of (stepped p.execution cpu) effects) →
@@ -50,6 +61,7 @@ going_from p g act is cpu z sends effects goes inside made sent few = record {
   made = made;
   sent = sent;
   rest = step_from p g act is (GoesOn (config_of (stepped p.execution cpu) effects)) goes;
+  come = come_more p g act is (GoesOn (config_of (stepped p.execution cpu) effects)) goes;
   few = few;
   task = g.task;
   inside = inside;

@@ -1,5 +1,5 @@
 -- The accesses that arm and stop a timer.
-use Rattle.task_run.proofs.Common.{◌≡◌, ℕ, ◌+◌, ◌*◌, ◌/◌, ◌<◌, ◌≤◌, List, [], ◌∷◌, ◌++◌, length, arith, refl, ap, ◌∙◌, sym, Some, None, Memory, store, perform, due_word, place_in, working_mask, Buffer, is_dirty-true, Arms, Stops, Program, TimerSet, Cpu, Effects, advance, IsAccepted, Pick, Model, HasShape, Saved, StandsPrivate, Ending, Execution, WriteArmed, WritePeriod, WriteStopped, TaskMachine, want, proceed, cpu_of, changed, due_with, period_by, period_with, with_due, with_effects, begun, Told, told, Serving, armed}
+use Rattle.task_run.proofs.Common.{◌≡◌, ℕ, ◌+◌, ◌/◌, ◌<◌, ◌≤◌, List, [], ◌∷◌, ◌++◌, length, arith, refl, ap, ◌∙◌, sym, Some, None, Memory, store, perform, due_word, place_in, working_mask, Buffer, is_dirty-true, Arms, Stops, Program, TimerSet, Cpu, Effects, advance, IsAccepted, Pick, Model, HasShape, Saved, StandsPrivate, Ending, Execution, WriteArmed, WritePeriod, WriteStopped, TaskMachine, want, proceed, cpu_of, changed, due_with, period_by, period_with, with_due, with_effects, begun, Told, told, Serving, armed}
 use Rattle.ink_base.specs.declared.limits.TheConstants as limits
 use Rattle.fram_words.specs.Header as header
 use Rattle.task_run.proofs.Accesses.{machine_at, Steps, put_step, holding_put, serving_at}

@@ -52,6 +52,7 @@ start_running program readings m pick stamp task y sends s o v accepted sound kn
       made = made ∙ begun-none pick x (stamp + 1);
       sent = unsent;
       rest = ap (λ k. run a.code a.given a.room k (config_of (execution_of task) (no_effects x.state))) all;
+      come = refl;
       few = λ q. omega arith;
       left = right.limit_least;
       task = sym is;

@@ -1,5 +1,5 @@
 -- A trap gives all writes up; an instruction that is done leads to the next one, or to the trap of the limit.
-use Rattle.task_run.proofs.Common.{◌≡◌, ℕ, ◌+◌, ◌-◌, ◌<◌, ◌≤◌, true, false, List, [], length, get_or, arith, refl, ap, ◌∙◌, sym, inl, inr, subst, ltb-true, ltb-false, append-nil, nat_lt, Option, Some, None, cases_Bool, Event, Origin, TaskId, Commit, Memory, origin_word, no_writes, Program, Sent, Cpu, Effects, RunEnd, Ended, Trapped, run, task_end, no_effects, sent_to, task_def, Pick, Model, ScanModel, thread_of, pending_in, Saved, saved, StandsPrivate, StandsThread, HasShape, IsPicked, no_pages, Ending, WriteFirst, Fetch, WriteNext, TaskMachine, trap, phase_again, proceed, stepped, Assignment, assignment, whole, rings_of, AreSent, begun, consumed, with_effects, effects_of, result, worked, config_of, IsTrap, IsEnd, IsEndOf, Told, told, Again, Serving}
+use Rattle.task_run.proofs.Common.{◌≡◌, ℕ, ◌+◌, ◌-◌, ◌<◌, ◌≤◌, true, false, List, [], length, get_or, arith, refl, ap, ◌∙◌, sym, inl, inr, subst, ltb-true, ltb-false, append-nil, nat_lt, Option, Some, None, cases_Bool, Event, Origin, TaskId, Commit, Memory, origin_word, no_writes, Program, Sent, Cpu, Effects, RunEnd, Ended, Trapped, GoesOn, run, task_end, no_effects, first_config, config_after, sent_to, task_def, Pick, Model, ScanModel, thread_of, pending_in, Saved, saved, StandsPrivate, StandsThread, HasShape, IsPicked, no_pages, Ending, WriteFirst, Fetch, WriteNext, TaskMachine, trap, phase_again, proceed, stepped, Assignment, assignment, whole, rings_of, AreSent, begun, consumed, with_effects, effects_of, result, worked, config_of, IsTrap, IsEnd, IsEndOf, Told, told, Again, Serving}
 use Rattle.ink_base.specs.declared.event.Origin.TheVariants as origins
 use Rattle.task_run.specs.declared.ending.Ending.TheVariants as endings
 use Rattle.task_run.proofs.Accesses.{Holding, serving_at, unwritten}
@@ -135,6 +135,7 @@ pub record Going (p : Told) (cpu : Cpu) : Type 0 where
   pub made : p.y ≡ with_effects (p.stamp + 1) p.pick.thread.0 effects (begun p.pick p.x)
   pub sent : p.sends ≡ effects.sends
   pub rest : run p.a.code p.a.given p.a.room (p.a.limit - (p.execution.executed + 1)) (config_of (stepped p.execution cpu) effects) ≡ whole p.a p.x
+  pub come : config_after p.a.code p.a.given p.a.room (p.execution.executed + 1) (first_config p.x.state) ≡ GoesOn (config_of (stepped p.execution cpu) effects)
   pub few : (q : ℕ) → sent_to q effects.sends ≤ get_or p.a.room.pipes q 0
   pub task : p.execution.task.0 ≡ p.a.task
   pub inside : cpu.at < length p.a.code
@@ -160,6 +161,7 @@ proceed_serving program m words r cpu y sends s o v stands shape h g =
             made = g.made;
             sent = g.sent;
             rest = g.rest;
+            come = g.come;
             few = g.few;
             left = ltb-true done a.limit t;
             task = g.task;

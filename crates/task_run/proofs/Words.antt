@@ -1,5 +1,5 @@
 -- Writes and reads of the words of a thread's block.
-use Rattle.task_run.proofs.Common.{◌≡◌, ℕ, zero, suc, ◌+◌, ◌*◌, ◌-◌, ◌<◌, ◌≤◌, List, [], ◌∷◌, ◌++◌, length, get_or, set, arith, refl, ap, ◌∙◌, sym, inl, inr, eq-eqb, ne_eqb, get_or-set_same, get_or-set_other, get_or-append-add, Some, cases_eq, set-append_right, Output, next_word, put, Saved, Ending, total_word, changed, with_due, rested, finish, total_of, with_total}
+use Rattle.task_run.proofs.Common.{◌≡◌, ℕ, ◌+◌, ◌*◌, ◌-◌, ◌<◌, ◌≤◌, List, ◌++◌, length, get_or, set, arith, refl, ap, ◌∙◌, sym, inl, inr, eq-eqb, ne_eqb, get_or-set_same, get_or-set_other, get_or-append-add, Some, cases_eq, set-append_right, Output, put, Saved, Ending, total_word, changed, with_due, rested, finish, total_of, with_total}
 use Rattle.ink_base.specs.declared.limits.TheConstants as limits
 use Rattle.never_cut.specs.Stands.{thread_words}
 use Rattle.fram_words.specs.Header as header

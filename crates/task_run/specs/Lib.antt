@@ -5,4 +5,5 @@ pub mod Fits
 pub mod Reached
 pub mod Bounded
 pub mod Knows
+pub mod Remaining
 pub mod kept

@@ -3,8 +3,7 @@ use Rattle.std.specs.Prelude.{ℕ, ◌+◌, ◌/◌, ◌%◌, ◌^◌, nat_lt, B
 use Rattle.ink_base.specs.declared.ids.TaskId.{TaskId}
 use Rattle.ink_base.specs.declared.event.Origin.{Origin}
 use Rattle.ink_base.specs.declared.event.Origin.TheVariants as origins
-use Rattle.fram_words.specs.Places.{Commit, Access}
-use Rattle.fram_words.specs.Held.{due_word}
+use Rattle.fram_words.specs.Places.{Access}
 use Rattle.event_pipe.specs.Ring.{has_room}
 use Rattle.persist_timer.specs.Due.{after_service}
 use Rattle.thread_state.specs.Pages.{no_writes, is_dirty, after_copy}

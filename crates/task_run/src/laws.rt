@@ -2,6 +2,7 @@
 
 ghost use Rattle.task_run.specs.Bounded.{EveryServiceEnds};
 ghost use Rattle.task_run.specs.Knows.{EveryTaskCommits, EveryTaskOutlasts, EveryTaskFits, EveryPickBegins};
+ghost use Rattle.task_run.specs.Remaining.{EveryPickCosts, EveryAccessCounts, EveryLastCommits, EveryCommitIsLast, EveryCountOutlasts, EveryServiceGoesOn};
 
 /// The law of the machine that serves a pick, for every accepted program, on words that stand for a state of the never-cut kernel.
 /// Until the commit each access leaves the committed copy of every thread, and the state; the store of the commit word is a legal
@@ -13,6 +14,18 @@ pub fn tasks_commit()
     ensures commits { EveryTaskCommits }
     ensures outlasts { EveryTaskOutlasts }
     ensures fits { EveryTaskFits }
+{}
+
+/// The law of the accesses that remain of a service, for every accepted program. At the pick they are as many as the meaning of the task
+/// costs; each access up to the store of the commit word is one of them, and that store is the last; accesses of sources and clock in
+/// between change nothing. On words that stand for a state of the never-cut kernel, each of them can be made.
+pub fn services_cost()
+    ensures costs { EveryPickCosts }
+    ensures counts { EveryAccessCounts }
+    ensures last { EveryLastCommits }
+    ensures only { EveryCommitIsLast }
+    ensures outlasts { EveryCountOutlasts }
+    ensures goes_on { EveryServiceGoesOn }
 {}
 
 /// How long a service takes at most, for every accepted program and whatever words it finds, each in the range of its place: two copies

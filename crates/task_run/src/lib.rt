@@ -2,6 +2,7 @@
 #![tactic(auto)]
 
 mod acting;
+mod ahead;
 mod ending;
 mod execution;
 mod following;
@@ -11,13 +12,14 @@ mod page_of;
 mod parts;
 mod phase;
 mod pipe_at;
+mod remaining;
 mod sending;
 mod steps;
 mod want;
 
 pub use ending::Ending;
 pub use execution::Execution;
-pub use laws::{services_end, tasks_commit};
+pub use laws::{services_cost, services_end, tasks_commit};
 pub use machine::TaskMachine;
 pub use phase::Phase;
 pub use sending::Sending;

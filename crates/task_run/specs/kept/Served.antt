@@ -14,7 +14,7 @@ use Rattle.task_isa.specs.declared.sent.Sent.{Sent}
 use Rattle.task_isa.specs.declared.timer_set.TimerSet.{TimerSet}
 use Rattle.task_isa.specs.declared.task_end.TaskEnd.{TaskEnd}
 use Rattle.task_isa.specs.Acts.{Given, act_of}
-use Rattle.task_isa.specs.Meaning.{Effects, Config, Room, RunEnd, Ended, Trapped, instr_at, run, run_of, task_end, given_of, room_of, no_effects, sent_to}
+use Rattle.task_isa.specs.Meaning.{Effects, Config, Room, RunEnd, Ended, Trapped, GoesOn, instr_at, run, run_of, task_end, given_of, room_of, no_effects, first_config, sent_to}
 use Rattle.prog_check.specs.Lookup.{pipe_def, task_def}
 use Rattle.ink_layout.specs.declared.pick.Pick.{Pick}
 use Rattle.never_cut.specs.declared.model.Model.{Model}
@@ -26,6 +26,7 @@ use Rattle.task_run.specs.declared.ending.Ending.{Ending}
 use Rattle.task_run.specs.declared.ending.Ending.TheVariants as endings
 use Rattle.task_run.specs.declared.execution.Execution.{Execution}
 use Rattle.task_run.specs.Actions.{cpu_of}
+use Rattle.task_run.specs.kept.Trace.{config_after}
 
 -- what a pick has to run: the task, its code and its limit, what its instructions read beside the registers, the room of its effects, and whether the
 -- chain has expired, so that none of it runs
@@ -148,6 +149,8 @@ pub record Running (x : Saved) (a : Assignment) (pick : Pick) (stamp : ℕ) (end
   pub made : y ≡ with_effects (stamp + 1) pick.thread.0 effects (begun pick x)
   pub sent : sends ≡ effects.sends
   pub rest : run a.code a.given a.room (a.limit - e.executed) (config_of e effects) ≡ whole a x
+  -- the instructions that were executed have come to here
+  pub come : config_after a.code a.given a.room e.executed (first_config x.state) ≡ GoesOn (config_of e effects)
   -- no pipe was sent more than it has room for
   pub few : (q : ℕ) → sent_to q effects.sends ≤ slice_index a.room.pipes q
   pub left : e.executed < a.limit

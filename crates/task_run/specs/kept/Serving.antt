@@ -2,7 +2,7 @@
 use Rattle.std.specs.Prelude.{◌≡◌, ℕ, ◌+◌, ◌/◌, ◌^◌, ◌<◌, true, List, [], length, slice_index, slice_index_or, Some}
 use Rattle.ink_base.specs.declared.ids.TaskId.{TaskId}
 use Rattle.fram_words.specs.Places.{Memory, Ring, Commit}
-use Rattle.fram_words.specs.Held.{origin_word, due_word, output_word}
+use Rattle.fram_words.specs.Held.{origin_word, output_word}
 use Rattle.event_pipe.specs.Ring.{ring_index}
 use Rattle.persist_timer.specs.Due.{after_service}
 use Rattle.thread_state.specs.Pages.{Buffer, Loading, Buffered, IsUnderWay}
