@@ -50,10 +50,7 @@ fn past_in(alloc: Global, text: &[u8]) -> Result<Option<u32>, JobAnswer>
         ..Tails::none()
     };
     let (parts, _tokens, _end) = parse_with_lines(alloc, text, tails)?;
-    Ok(line_past(
-        parts.job.charges(),
-        parts.charge_lines.as_slice(),
-    ))
+    Ok(line_past(parts.job.charges(), parts.charge_lines.as_slice()))
 }
 
 /// The table of the runs of a job, and its text.
