@@ -1,7 +1,0 @@
-use Rattle.std.proofs.Common.{◌≡◌, ℕ, ◌<◌, length, get_or}
-use Rattle.cut_sweep.specs.Sweep.{IsRowOf, no_row}
-use Rattle.cut_sweep.proofs.sweeping.sweep.Given as goal
-
-abbrev pub invariant-loop-n : goal.invariant-loop-n
-invariant-loop-n l =
-    (l.core.job ≡ l.job) × (length l.rows.items ≡ l.n) × ((k : ℕ) → k < l.n → IsRowOf l.job k (get_or l.rows.items k no_row))
