@@ -32,12 +32,7 @@ pub fn sweep(alloc: Global, job: &Job) -> Result<SweepTable, NoMemory>
 }
 
 // A row for each number of turns, with memory for all of them before the first run.
-fn table_of(
-    alloc: Global,
-    core: &mut Core,
-    plan: &Plan,
-    job: &Job,
-) -> Result<SweepTable, NoMemory>
+fn table_of(alloc: Global, core: &mut Core, plan: &Plan, job: &Job) -> Result<SweepTable, NoMemory>
     requires same { core.old.job ≡ job.now }
     requires plan { plan.now.accepted ≡ job.now.program }
     ensures { IfOk result (IsSweepOf job.now) }
