@@ -1,19 +1,19 @@
 -- A job whose first charge is cut.
-use Rattle.std.proofs.Common.{◌≡◌, ℕ, zero, suc, ◌+◌, ◌-◌, ◌<◌, ◌≤◌, min, List, [], ◌∷◌, ◌++◌, length, take, drop, replicate, get_or, refl, sym, ap, ◌∙◌, arith, sum_by}
+use Rattle.std.proofs.Common.{◌≡◌, ℕ, zero, suc, ◌+◌, ◌-◌, ◌<◌, ◌≤◌, min, List, [], ◌∷◌, ◌++◌, length, take, drop, replicate, get_or, refl, sym, ap, ◌∙◌, arith}
 use Rattle.std.proofs.lemmas.List.{flat_map_more, length-drop, take_all, take_more}
 use Rattle.std.proofs.lemmas.List.Elements.{All-cons, All-head, All-tail}
 use Rattle.std.proofs.lemmas.List.Sums.{sum_by-cons, sum_by_more, sum_by-take-drop}
 use Rattle.std.specs.List.{All, flat_map}
 use Rattle.ink_base.specs.declared.limits.TheConstants as limits
-use Rattle.job_parts.specs.Job.{JobParts, IsJob, IsOnBoard, IsRightCharge, AreCharges, item_turns, charge_turns}
+use Rattle.job_parts.specs.Job.{IsOnBoard, IsRightCharge, AreCharges, item_turns, charge_turns}
 use Rattle.job_parts.specs.declared.item.Item.{Item}
 use Rattle.job_parts.specs.declared.charge.Charge.{Charge}
-use Rattle.kernel_core.specs.Board.{Setup, Board, Move, Cut, Turn, moved_by}
-use Rattle.kernel_core.specs.Core.{charge_def, no_charge, no_item}
+use Rattle.kernel_core.specs.Board.{Setup, Board, Cut, Turn, moved_by}
+use Rattle.kernel_core.specs.Core.{no_charge, no_item}
 use Rattle.kernel_core.specs.Listed.{moves, moves_of, turns_of}
 use Rattle.kernel_core.proofs.CoreJobs.{turns_small}
 use Rattle.kernel_core.proofs.CoreRuns.{moved_append}
-use Rattle.cut_sweep.specs.Cut.{cut_item, first_turns, cut_charge, cut_first, cut_to, CutsTake, AllIsWhole, CutsAreJobs}
+use Rattle.cut_sweep.specs.Cut.{cut_item, first_turns, cut_charge, cut_first, CutsTake, AllIsWhole, CutsAreJobs}
 
 -- the first so many of equal turns and of those behind them
 take_turns : {X : Type 0} (n k : ℕ) (x : X) (rest : List X) → take n (replicate k x ++ rest) ≡ replicate (min n k) x ++ take (n - k) rest

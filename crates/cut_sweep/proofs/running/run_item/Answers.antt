@@ -38,7 +38,7 @@ loop-turn-preserved c = (
 pub returns-clause-board : goal.returns-clause-board
 returns-clause-board c =
     let all : c.loop-turn._turn ≡ min c.args.left c.args.item.count =
-        let e = c.loop-turn-test.false in let f = c.loop-turn.auto._turn-end in let g = c.min-turns.ensures in omega arith in
+    let e = c.loop-turn-test.false in let f = c.loop-turn.auto._turn-end in let g = c.min-turns.ensures in omega arith in
     c.loop-turn.invariant.1 ∙ ap (λ n. moved_by (setup_of c.args.core.now.job) c.args.core.now.board (replicate n (Turn c.args.item.actor))) all
 
 pub returns-clause-begun : goal.returns-clause-begun

@@ -1,5 +1,4 @@
-use Rattle.std.proofs.Common.{◌≡◌, ℕ, ◌+◌, ◌*◌, ◌≤◌, max, sym, ap, ◌∙◌, arith}
-use Rattle.ink_base.specs.declared.limits.TheConstants as limits
+use Rattle.std.proofs.Common.{◌≡◌, ◌+◌, max, sym, ap, ◌∙◌, arith}
 use Rattle.fram_words.specs.Places.{Memory}
 use Rattle.fram_words.specs.Shape.{memory_of}
 use Rattle.ink_layout.specs.Shape.{shape_of}
@@ -31,9 +30,9 @@ pub returns : goal.returns
 returns c =
     let words : Memory = memory_of (shape_of c.args.plan.now.accepted) c.args.words.now in
     let outputs : c.args.row.outputs + c.header_word-outputs.result ≡ sum_to (outputs_told words) (c.args.thread.0 + 1) =
-        (λ i. (c.requires.before i).outputs + c.header_word-outputs.ensures i) ∙ sym (sum_more (outputs_told words) c.args.thread.0) in
+    (λ i. (c.requires.before i).outputs + c.header_word-outputs.ensures i) ∙ sym (sum_more (outputs_told words) c.args.thread.0) in
     let commits : c.max.result ≡ max_to (stamp_told words) (c.args.thread.0 + 1) =
-        c.max.ensures ∙ ((λ i. max (c.requires.before i).commits (c.header_word-stamp.ensures i)) ∙ sym (max_more (stamp_told words) c.args.thread.0)) in
+    c.max.ensures ∙ ((λ i. max (c.requires.before i).commits (c.header_word-stamp.ensures i)) ∙ sym (max_more (stamp_told words) c.args.thread.0)) in
     let held : c.args.row.held + c.full_slots.result ≡ sum_to (full_slots c.args.plan.now.accepted words) (c.args.thread.0 + 1) =
-        (λ i. (c.requires.before i).held + c.full_slots.ensures i) ∙ sym (sum_more (full_slots c.args.plan.now.accepted words) c.args.thread.0) in
+    (λ i. (c.requires.before i).held + c.full_slots.ensures i) ∙ sym (sum_more (full_slots c.args.plan.now.accepted words) c.args.thread.0) in
     λ i. record { cut = c.args.row.cut; outputs = outputs i; commits = commits i; held = held i }
