@@ -1,18 +1,19 @@
 -- A job whose first charge is cut.
-use Rattle.std.proofs.Common.{◌≡◌, ℕ, zero, suc, ◌+◌, ◌-◌, ◌<◌, ◌≤◌, min, List, [], ◌∷◌, ◌++◌, length, take, replicate, get_or, refl, sym, ap, ◌∙◌, arith, sum_by}
-use Rattle.std.proofs.lemmas.List.{flat_map_more, take_more}
+use Rattle.std.proofs.Common.{◌≡◌, ℕ, zero, suc, ◌+◌, ◌-◌, ◌<◌, ◌≤◌, min, List, [], ◌∷◌, ◌++◌, length, take, drop, replicate, get_or, refl, sym, ap, ◌∙◌, arith}
+use Rattle.std.proofs.lemmas.List.{flat_map_more, length-drop, take_all, take_more}
 use Rattle.std.proofs.lemmas.List.Elements.{All-cons, All-head, All-tail}
-use Rattle.std.proofs.lemmas.List.Sums.{sum_by-cons}
+use Rattle.std.proofs.lemmas.List.Sums.{sum_by-cons, sum_by_more, sum_by-take-drop}
 use Rattle.std.specs.List.{All, flat_map}
 use Rattle.ink_base.specs.declared.limits.TheConstants as limits
-use Rattle.job_parts.specs.Job.{JobParts, IsJob, IsOnBoard, IsRightCharge, AreCharges, item_turns, charge_turns}
+use Rattle.job_parts.specs.Job.{IsOnBoard, IsRightCharge, AreCharges, item_turns, charge_turns}
 use Rattle.job_parts.specs.declared.item.Item.{Item}
 use Rattle.job_parts.specs.declared.charge.Charge.{Charge}
-use Rattle.kernel_core.specs.Board.{Setup, Board, Move, Cut, Turn, moved_by}
-use Rattle.kernel_core.specs.Core.{charge_def, no_charge, no_item}
-use Rattle.kernel_core.specs.Listed.{moves_of, turns_of}
+use Rattle.kernel_core.specs.Board.{Setup, Board, Cut, Turn, moved_by}
+use Rattle.kernel_core.specs.Core.{no_charge, no_item}
+use Rattle.kernel_core.specs.Listed.{moves, moves_of, turns_of}
+use Rattle.kernel_core.proofs.CoreJobs.{turns_small}
 use Rattle.kernel_core.proofs.CoreRuns.{moved_append}
-use Rattle.cut_sweep.specs.Cut.{cut_item, first_turns, cut_charge, cut_first, cut_to, CutsTake, AllIsWhole, CutsAreJobs}
+use Rattle.cut_sweep.specs.Cut.{cut_item, first_turns, cut_charge, cut_first, CutsTake, AllIsWhole, CutsAreJobs}
 
 -- the first so many of equal turns and of those behind them
 take_turns : {X : Type 0} (n k : ℕ) (x : X) (rest : List X) → take n (replicate k x ++ rest) ≡ replicate (min n k) x ++ take (n - k) rest
@@ -27,7 +28,7 @@ take_turns (suc n) (suc k) x rest =
     let f : suc n - suc k ≡ n - k = omega arith in
     ap (λ l. x ∷ l) (take_turns n k x rest) ∙ sym (λ i. replicate (e i) x ++ take (f i) rest)
 
-take_none : {X : Type 0} (n : ℕ) → take n [] ≡ [] {A = X}
+take_none : {X : Type 0} (n : ℕ) → take {A = X} n [] ≡ []
 take_none zero = refl
 take_none (suc n) = refl
 
@@ -126,3 +127,23 @@ items_more s b n items k lt =
     ∙ (ap (λ l. moved_by s b (flat_map turns_of l)) (first_more n (take k items) (get_or items k no_item ∷ []))
     ∙ (ap (λ l. moved_by s b l) (sym (flat_map_more turns_of [] (first_turns n (take k items)) item))
     ∙ moved_append s b (flat_map turns_of (first_turns n (take k items))) (turns_of item)))
+
+-- how many turns are left behind it
+pub left_more : (n : ℕ) (items : List Item) (k : ℕ) → k < length items → n - item_turns (take k items) - (get_or items k no_item).count ≡ n - item_turns (take (k + 1) items)
+left_more n items k lt = let more = sum_by_more (λ (x : Item). x.count) items k no_item lt in omega arith
+
+-- the board behind the first charge, which is cut, and behind the others
+pub first_and_others : (s : Setup) (b : Board) (turns : ℕ) (charges : List Charge) → 0 < length charges →
+    moved_by s b (moves (cut_first turns charges)) ≡ moved_by s (moved_by s b (moves_of (cut_charge turns (get_or charges 0 no_charge)))) (flat_map moves_of (drop 1 charges))
+first_and_others s b turns [] some = absurd (omega arith)
+first_and_others s b turns (charge ∷ charges) some = moved_append s b (moves_of (cut_charge turns charge)) (flat_map moves_of charges)
+
+-- all behind the first
+pub all_others : (charges : List Charge) → take (length charges - 1) (drop 1 charges) ≡ drop 1 charges
+all_others charges = take_all (length charges - 1) (drop 1 charges) (simp length-drop (omega arith))
+
+-- each of them lists few turns
+pub other_few : (charges : List Charge) (k : ℕ) → charge_turns charges ≤ limits.TURNS → k < length (drop 1 charges) → item_turns (get_or (drop 1 charges) k no_charge).items ≤ limits.TURNS
+other_few charges k few lt =
+    let all = sum_by-take-drop (λ (c : Charge). item_turns c.items) charges 1 in
+    turns_small (drop 1 charges) k (omega arith) lt

@@ -1,5 +1,5 @@
 -- Sums of the first so many numbers, and the greatest of them.
-use Rattle.std.proofs.Common.{◌≡◌, ◌⊎◌, inl, inr, ℕ, zero, suc, ◌+◌, ◌%◌, ◌<◌, ◌≤◌, max, List, [], ◌∷◌, length, get_or, refl, sym, ap, ◌∙◌, subst, arith, sum_by, mod-eq_of_lt}
+use Rattle.std.proofs.Common.{◌≡◌, ◌⊎◌, inl, inr, ℕ, zero, suc, ◌+◌, ◌*◌, ◌%◌, ◌<◌, ◌≤◌, max, List, [], ◌∷◌, length, get_or, refl, sym, ap, ◌∙◌, subst, arith, sum_by, mod-eq_of_lt}
 use Rattle.std.proofs.Math.Nat.{add-mod_right}
 use Rattle.std.proofs.lemmas.Bool.{cases_lt}
 use Rattle.std.proofs.lemmas.List.Sums.{sum_by-cons}
@@ -85,3 +85,10 @@ max_is f n c all (inr one) =
     let most = max_least f n c all in
     let least = max_reached f n one.0 one.1 in
     let is = one.2 in omega arith
+
+-- where none is more than this
+pub sum_most : (f : ℕ → ℕ) (n most : ℕ) → ((k : ℕ) → k < n → f k ≤ most) → sum_to f n ≤ n * most
+sum_most f zero most all = omega arith
+sum_most f (suc n) most all =
+    let before = sum_most f n most (λ k lt. all k (omega arith)) in
+    let here = all n (omega arith) in omega arith

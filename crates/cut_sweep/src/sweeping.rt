@@ -28,10 +28,19 @@ pub fn sweep(alloc: Global, job: &Job) -> Result<SweepTable, NoMemory>
 {
     let plan = Plan::new(alloc, job.accepted().copy(alloc)?)?;
     let mut core = prepare(alloc, job.copy(alloc)?)?;
+    table_of(alloc, &mut core, &plan, job)
+}
+
+// A row for each number of turns, with memory for all of them before the first run.
+fn table_of(alloc: Global, core: &mut Core, plan: &Plan, job: &Job) -> Result<SweepTable, NoMemory>
+    requires same { core.old.job ≡ job.now }
+    requires plan { plan.now.accepted ≡ job.now.program }
+    ensures { IfOk result (IsSweepOf job.now) }
+{
     let turns = first_turns(job);
     let mut rows = Vec::with_capacity(alloc, turns as usize + 1)?;
     for n in 0..turns + 1 {
-        rows.push(row_at(&mut core, &plan, job, n))?;
+        rows.push_reserved(row_at(core, plan, job, n));
     }
     Ok(SweepTable {
         rows: Items::from_vec(rows),
@@ -56,6 +65,8 @@ fn row_at(core: &mut Core, plan: &Plan, job: &Job, turns: u32) -> SweepRow
     ensures row { IsRowOf job.now turns result }
     ensures job { core.new.job ≡ core.old.job }
 {
+    // The job is within its limits.
+    let _charges = job.charges();
     core.begin_again();
     run_cut(core, job, turns);
     told_row(plan, core.words(), turns)

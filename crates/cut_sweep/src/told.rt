@@ -41,6 +41,8 @@ fn with_thread(plan: &Plan, words: &Fram, row: SweepRow, thread: ThreadId) -> Sw
     requires before { row ≡ told_row plan.now.accepted (memory_of (shape_of plan.now.accepted) words.now) row.cut thread.0 }
     ensures { result ≡ told_row plan.now.accepted (memory_of (shape_of plan.now.accepted) words.now) row.cut (thread.0 + 1) }
 {
+    // The program is accepted: so few threads have no more outputs than fit.
+    let _program = plan.program();
     let outputs = header_word(plan, words, thread, Header::Outputs) as u32;
     let stamp = header_word(plan, words, thread, Header::Stamp) as u32;
     SweepRow {
