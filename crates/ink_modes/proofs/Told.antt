@@ -1,7 +1,6 @@
 -- What a call tells of its words, from what its command tells.
-use Rattle.ink_modes.proofs.Common.{◌≡◌, ◌⊎◌, inl, inr, IfSome, ℕ, ◌+◌, ◌≤◌, Option, Some, None, Ok, Err, List, ◌++◌, length, length-append, refl, sym, ap, ◌∙◌, subst, arith, append-nil, Word, JobParts, Command, form_of, IsCommand}
+use Rattle.ink_modes.proofs.Common.{◌≡◌, ◌⊎◌, inl, inr, IfSome, ℕ, ◌+◌, ◌≤◌, Option, Some, None, Err, List, ◌++◌, length, length-append, refl, sym, ap, ◌∙◌, subst, arith, append-nil, Word, Command, form_of, IsCommand}
 use Rattle.std.specs.Io.KnownBytes.{Consumes, IsAtEnd}
-use Rattle.ink_base.specs.declared.fault.JobFault.{JobFault}
 use Rattle.ink_base.specs.declared.status.Status.{Status}
 use Rattle.ink_base.specs.declared.status.Status.TheVariants.{Done, Usage, Refused, ReadFault, WriteFault, NoMemory, TooLong}
 use Rattle.ink_io.specs.Counts.{Rose}

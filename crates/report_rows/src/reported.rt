@@ -227,12 +227,7 @@ fn text_of(alloc: Global, run: Run, flags: Flags) -> Result<Vec<u8>, NoMemory> {
     }
 }
 
-pub(crate) fn is_told(
-    alloc: Global,
-    run: Run,
-    flags: Flags,
-    text: &str,
-) -> Result<bool, NoMemory> {
+pub(crate) fn is_told(alloc: Global, run: Run, flags: Flags, text: &str) -> Result<bool, NoMemory> {
     let told = text_of(alloc, run, flags)?;
     Ok(told.as_slice() == text.as_bytes())
 }
