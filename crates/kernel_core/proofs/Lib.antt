@@ -35,3 +35,4 @@ pub mod KernelPaces
 pub mod PacedCharges
 pub mod Paced
 pub mod Costed
+pub mod Resting
