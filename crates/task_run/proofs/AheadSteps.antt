@@ -241,19 +241,3 @@ pub fits_ahead : (program : Program) (words : Memory) (block : List ℕ) (now : 
     FitsWord program r.phase (found_by words r.pick.thread.0 block (want program r))
 fits_ahead program words block now r known alive there h =
     fits_there program words r.pick.thread.0 block now known r (action program r r.phase) (looks program r r.phase alive) (fits_alike program r r.phase) there h
-
--- a copying on a page of the board is at a word of its page
-copy_inside : (program : Program) (t commit page : ℕ) (c : Copying) → IsOnBoard program (place_of (copy_access t commit page c)) → IsInPage c
-copy_inside program t commit page (Loading k) there = there.3
-copy_inside program t commit page (Storing k v) there = there.3
-
-copies_there : (program : Program) (r : TaskMachine) (a : Action) → IsOnBoard program (place_of (actions.access_of r a)) → CopiesInPage r.buffer a
-copies_there program r (Put w v) there =
-    λ clean. copy_inside program r.pick.thread.0 r.buffer.commit (w / 8) r.buffer.copying (subst (λ d. IsOnBoard program (place_of (cond d (write_access r.pick.thread.0 r.buffer w v) (copy_access r.pick.thread.0 r.buffer.commit (w / 8) r.buffer.copying)))) clean there)
-copies_there program r (Get w) there = tt
-copies_there program r (Make access) there = tt
-
--- so each access to the board leaves less
-pub access_lowers : (program : Program) (r : TaskMachine) (word : ℕ) → IsAccepted program → FitsTask program r → IsOnBoard program (place_of (want program r)) →
-    left_most program (take program r word) < left_most program r
-access_lowers program r word accepted fits there = (task_lowers program r word accepted fits (copies_there program r (action program r r.phase) there)).0
