@@ -1,5 +1,5 @@
 -- A machine that goes on ahead of its board finds what it would find there, and comes to the same registers.
-use Rattle.task_run.proofs.Common.{◌≡◌, ℕ, zero, suc, ◌-◌, ◌/◌, ◌%◌, ◌<◌, Bool, true, false, cond, List, length, get_or, set, get_or-set_same, get_or-set_other, arith, refl, ap, ◌∙◌, sym, inl, inr, subst, eq-eqb, ne_eqb, false≢true, cases_Bool, cases_eq, Place, Page, Log, Ring, Memory, Load, Store, store, perform, answer, store-same, store-other, place_in, working_mask, Buffer, Copying, Loading, Storing, is_dirty, put_access, copy_access, after_copy, Program, IsAccepted, FitsTask, FitsWord, pages_of, thread_def, Phase, Resume, StoreCommit, StoreAck, StoreEmpty, Over, TaskMachine, Action, Put, Get, Make, action, want, take, after, after_action, is_late, bit_at, next_word, None, ReadPeriod, Fetch, ReadState, ReadCount, LoadReader, LoadTaken, ReadWritten, ReadTotal, if◌then◌else◌}
+use Rattle.task_run.proofs.Common.{◌≡◌, ℕ, zero, suc, ◌-◌, ◌/◌, ◌%◌, ◌<◌, Bool, true, false, List, length, get_or, set, get_or-set_same, get_or-set_other, arith, refl, ap, ◌∙◌, sym, inl, inr, subst, eq-eqb, ne_eqb, false≢true, cases_Bool, cases_eq, Place, Page, Log, Ring, Memory, Load, Store, store, perform, answer, store-same, store-other, place_in, working_mask, Buffer, Copying, Loading, Storing, is_dirty, put_access, copy_access, after_copy, Program, IsAccepted, FitsWord, pages_of, thread_def, Phase, Resume, StoreCommit, StoreAck, StoreEmpty, Over, TaskMachine, Action, Put, Get, Make, action, want, take, after, after_action, is_late, bit_at, next_word, None, ReadPeriod, Fetch, ReadState, ReadCount, LoadReader, LoadTaken, ReadWritten, ReadTotal, if◌then◌else◌}
 use Rattle.fram_words.specs.Places.{Exchange, Add, place_of}
 use Rattle.ink_layout.specs.Shape.{IsOnBoard}
 use Rattle.fram_words.specs.Header as header
@@ -8,9 +8,6 @@ use Rattle.task_run.specs.Machine.{after_resume}
 use Rattle.task_run.specs.Remaining.{Alone, next_alone, alone, is_committed}
 use Rattle.task_run.specs.kept.Ahead.{block_index, found_at, found_by, kept_at, kept_by, IsElsewhere, IsAhead}
 use Rattle.task_run.proofs.AheadWords.{page_few}
-use Rattle.thread_state.specs.Pages.{write_access}
-use Rattle.task_run.specs.kept.LeftMost.{IsInPage, left_most}
-use Rattle.task_run.proofs.LeftFalls.{CopiesInPage, task_lowers}
 use Rattle.task_run.proofs.Keeping.{IsBefore}
 
 -- one more access behind the others

@@ -1,5 +1,5 @@
 -- What is left of a service at most is far below 2^32, and each access to the board leaves less.
-use Rattle.task_run.proofs.Common.{◌≡◌, ℕ, zero, suc, ◌<◌, ◌≤◌, length, arith, ap, inl, inr, cases_eq, cases_lt, eq-eqb, ne_eqb, bit_at, get_or_past, Program, Task, IsAccepted, thread_def, task_def, first_task, no_task_def, Pick, Buffer, Ending, Execution, Phase, WriteFirst, WriteOrigin, WriteValue, WriteTaken, ReadPeriod, WriteDue, TaskMachine, Action, Put, Get, Make, action, want, take, FitsTask, Copying, Loading, Storing, copy_access, cond, subst}
+use Rattle.task_run.proofs.Common.{◌/◌, ◌≡◌, ℕ, zero, suc, ◌<◌, ◌≤◌, length, arith, ap, inl, inr, cases_eq, cases_lt, eq-eqb, ne_eqb, bit_at, get_or_past, Program, Task, IsAccepted, thread_def, task_def, first_task, no_task_def, Pick, Buffer, Ending, Execution, Phase, WriteFirst, WriteOrigin, WriteValue, WriteTaken, ReadPeriod, WriteDue, TaskMachine, Action, Put, Get, Make, action, want, take, FitsTask, Copying, Loading, Storing, copy_access, cond, subst}
 use Rattle.ink_base.specs.declared.limits.TheConstants as limits
 use Rattle.task_run.specs.declared.ending.Ending.TheVariants as endings
 use Rattle.task_run.specs.kept.LeftMost.{IsInPage, clean_pages, block_pages, behind_event, left_in, left_most}
