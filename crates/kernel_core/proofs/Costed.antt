@@ -1,21 +1,20 @@
 -- Behind a pick the kernel's accesses count down to its commit.
-use Rattle.kernel_core.proofs.Common.{◌≡◌, ℕ, zero, suc, ◌+◌, ◌-◌, ◌<◌, ◌≤◌, cond, Bool, true, false, List, [], ◌∷◌, ◌++◌, length, refl, sym, ap, ◌∙◌, subst, arith, Actor, Memory, Place, perform, answer, place_of, at_address, performed, performed_there, finds_there, is_valid, valid, below, memory_of, Option, Some, None, Model, Readings, Background, Lasts, lasts_less, access, access_of-port, is_left, IsLeft, readings_of, SamePrivate, TaskMachine, Knows, KnowsAt, is_over, first_phase, Kernel, Boot, Scan, Task, wants, takes, point_found, begin_scan, after_task, Setup, Board, Move, Cut, Turn, shape, sides, finds, kernel_access, kernel_turn, source_access, source_made, source_turn, clock_turn, row_of, turn, cut, moved_by, first_board, IsSetup, memory, state, KernelHolds, HasSize, Holds, IsActor, AreMoves, ticks, turns, IsInRange}
+use Rattle.kernel_core.proofs.Common.{◌≡◌, ℕ, zero, suc, ◌+◌, ◌-◌, ◌<◌, cond, Bool, true, false, List, [], ◌∷◌, ◌++◌, length, refl, sym, ap, ◌∙◌, subst, arith, Actor, Memory, perform, answer, place_of, at_address, performed, performed_there, finds_there, is_valid, valid, below, memory_of, Option, Some, None, Model, Lasts, lasts_less, access, access_of-port, is_left, readings_of, SamePrivate, TaskMachine, Knows, KnowsAt, is_over, first_phase, Task, wants, takes, point_found, begin_scan, Setup, Board, Move, Cut, Turn, shape, sides, finds, kernel_access, kernel_turn, source_made, source_turn, clock_turn, row_of, turn, cut, moved_by, first_board, IsSetup, memory, state, KernelHolds, Holds, AreMoves, ticks, turns, IsInRange}
 use Rattle.ink_base.specs.declared.actor.Actor.TheVariants as actors
 use Rattle.ink_base.specs.declared.ids.TaskId.{TaskId}
 use Rattle.ink_layout.specs.declared.pick.Pick.{Pick}
-use Rattle.ink_layout.specs.declared.kernel_point.KernelPoint.{KernelPoint}
 use Rattle.ink_layout.specs.declared.kernel_point.KernelPoint.TheVariants as points
 use Rattle.ink_layout.specs.Shape.{IsOnBoard}
 use Rattle.never_cut.specs.Cost.{cost}
 use Rattle.never_cut.specs.kept.Actors.{IsPrivate}
 use Rattle.never_cut.specs.kept.Picked.{IsPicked}
-use Rattle.task_run.specs.Machine.{begin, take, want, point}
-use Rattle.task_run.specs.Remaining.{is_committed, IsRemaining}
+use Rattle.task_run.specs.Machine.{begin, want, point}
+use Rattle.task_run.specs.Remaining.{IsRemaining}
 use Rattle.task_run.proofs.Counting.{every_access_counts, every_count_outlasts, machine_next, words_next}
 use Rattle.task_run.proofs.LastAccesses.{every_last_commits, every_commit_is_last}
 use Rattle.task_run.proofs.Remains.{every_pick_costs, is_over-false}
 use Rattle.task_run.proofs.SamePicks.{take_pick}
-use Rattle.kernel_core.specs.Costed.{kernel_turns, HasNoCut, next_point, HasPicked, IsServed, EveryPickCommits}
+use Rattle.kernel_core.specs.Costed.{kernel_turns, HasNoCut, next_point, IsServed, EveryPickCommits}
 use Rattle.kernel_core.proofs.Cuts.{cut_goes}
 use Rattle.kernel_core.proofs.Firsts.{first_holds}
 use Rattle.kernel_core.proofs.KernelPlaces.{kernel_on}
@@ -23,7 +22,7 @@ use Rattle.kernel_core.proofs.Others.{private_beside, source_beside}
 use Rattle.kernel_core.proofs.Quiet.{perform_other}
 use Rattle.kernel_core.proofs.Runs.{turn_begun, turn_goes, after_turn, after_cut}
 use Rattle.kernel_core.proofs.SourcePlaces.{source_on}
-use Rattle.kernel_core.proofs.Turns.{Goes, background_of}
+use Rattle.kernel_core.proofs.Turns.{background_of}
 use Rattle.fram_words.specs.Places as places
 
 -- a board that holds, with these moves before it

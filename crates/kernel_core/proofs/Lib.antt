@@ -41,3 +41,4 @@ pub mod KernelPaces
 pub mod PacedCharges
 pub mod Paced
 pub mod Costed
+pub mod Resting

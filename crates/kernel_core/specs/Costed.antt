@@ -1,5 +1,5 @@
 -- When the kernel commits a pick: after as many accesses as the meaning of the task costs, whatever turns of the other actors lie between.
-use Rattle.std.specs.Prelude.{◌≡◌, ◌↔◌, ℕ, suc, ◌-◌, ◌<◌, List, [], ◌∷◌, ◌++◌}
+use Rattle.std.specs.Prelude.{◌≡◌, ◌↔◌, ℕ, suc, ◌-◌, ◌<◌, List, [], ◌∷◌, ◌++◌, Option, Some, None}
 use Rattle.ink_base.specs.declared.actor.Actor.TheVariants as actors
 use Rattle.ink_layout.specs.declared.pick.Pick.{Pick}
 use Rattle.ink_layout.specs.declared.kernel_point.KernelPoint.{KernelPoint}
@@ -8,6 +8,7 @@ use Rattle.never_cut.specs.Cost.{cost}
 use Rattle.task_run.specs.declared.machine.TaskMachine.{TaskMachine}
 use Rattle.task_run.specs.Machine.{begin}
 use Rattle.task_run.specs.Remaining.{IsRemaining}
+use Rattle.kernel_core.specs.declared.kernel.Kernel.{Kernel}
 use Rattle.kernel_core.specs.declared.kernel.Kernel.TheVariants.{Task}
 use Rattle.kernel_core.specs.Kernel.{point_found}
 use Rattle.kernel_core.specs.Board.{Setup, Board, Move, Cut, Turn, finds, kernel_access, moved_by, first_board}
@@ -51,3 +52,8 @@ EveryPickCommits =
     let b = moved_by s (first_board s words charges) moves in
     HasPicked b pick → kernel_turns more < cost s.program (state s b) pick.thread.0 →
     IsServed s (moved_by s b more) pick (cost s.program (state s b) pick.thread.0 - kernel_turns more)
+
+-- what a kernel has left up to its commit: the number of its accesses where it serves a pick, and nothing where it doesn't
+abbrev pub TellsRest : Setup → Board → Kernel → Option ℕ → Type 0
+TellsRest s b (Task machine) rest = (n : ℕ) × (rest ≡ Some n) × IsRemaining s.program (memory s b) machine n
+TellsRest s b _ rest = rest ≡ None

@@ -14,6 +14,7 @@ ghost use Rattle.kernel_core.specs.First.{StandsFirst};
 ghost use Rattle.kernel_core.specs.Core.{View, setup_of, turns_in, job_of};
 ghost use Rattle.kernel_core.specs.kept.Cores.{IsCore, row_in, charge_in, rebooted};
 
+mod remaining;
 mod turns;
 
 use crate::charge_record::ChargeRecord;

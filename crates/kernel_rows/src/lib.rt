@@ -9,6 +9,8 @@ mod kernel_core_rows;
 #[cfg(test)]
 mod priority_sched_rows;
 #[cfg(test)]
+mod remaining_rows;
+#[cfg(test)]
 mod scans;
 #[cfg(test)]
 mod served_words;

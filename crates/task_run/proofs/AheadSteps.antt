@@ -1,5 +1,5 @@
 -- A machine that goes on ahead of its board finds what it would find there, and comes to the same registers.
-use Rattle.task_run.proofs.Common.{◌≡◌, ℕ, zero, suc, ◌-◌, ◌/◌, ◌%◌, ◌<◌, Bool, true, false, cond, List, length, get_or, set, get_or-set_same, get_or-set_other, arith, refl, ap, ◌∙◌, sym, inl, inr, subst, eq-eqb, ne_eqb, false≢true, cases_Bool, cases_eq, Place, Page, Log, Ring, Memory, Load, Store, store, perform, answer, store-same, store-other, place_in, working_mask, Buffer, Copying, Loading, Storing, is_dirty, put_access, copy_access, after_copy, Program, IsAccepted, FitsTask, FitsWord, pages_of, thread_def, Phase, Resume, StoreCommit, StoreAck, StoreEmpty, Over, TaskMachine, Action, Put, Get, Make, action, want, take, after, after_action, is_late, bit_at, next_word, None, ReadPeriod, Fetch, ReadState, ReadCount, LoadReader, LoadTaken, ReadWritten, ReadTotal, if◌then◌else◌}
+use Rattle.task_run.proofs.Common.{◌≡◌, ℕ, zero, suc, ◌-◌, ◌/◌, ◌%◌, ◌<◌, Bool, true, false, List, length, get_or, set, get_or-set_same, get_or-set_other, arith, refl, ap, ◌∙◌, sym, inl, inr, subst, eq-eqb, ne_eqb, false≢true, cases_Bool, cases_eq, Place, Page, Log, Ring, Memory, Load, Store, store, perform, answer, store-same, store-other, place_in, working_mask, Buffer, Copying, Loading, Storing, is_dirty, put_access, copy_access, after_copy, Program, IsAccepted, FitsWord, pages_of, thread_def, Phase, Resume, StoreCommit, StoreAck, StoreEmpty, Over, TaskMachine, Action, Put, Get, Make, action, want, take, after, after_action, is_late, bit_at, next_word, None, ReadPeriod, Fetch, ReadState, ReadCount, LoadReader, LoadTaken, ReadWritten, ReadTotal, if◌then◌else◌}
 use Rattle.fram_words.specs.Places.{Exchange, Add, place_of}
 use Rattle.ink_layout.specs.Shape.{IsOnBoard}
 use Rattle.fram_words.specs.Header as header
@@ -8,9 +8,6 @@ use Rattle.task_run.specs.Machine.{after_resume}
 use Rattle.task_run.specs.Remaining.{Alone, next_alone, alone, is_committed}
 use Rattle.task_run.specs.kept.Ahead.{block_index, found_at, found_by, kept_at, kept_by, IsElsewhere, IsAhead}
 use Rattle.task_run.proofs.AheadWords.{page_few}
-use Rattle.thread_state.specs.Pages.{write_access}
-use Rattle.task_run.specs.kept.LeftMost.{IsInPage, left_most}
-use Rattle.task_run.proofs.LeftFalls.{CopiesInPage, task_lowers}
 use Rattle.task_run.proofs.Keeping.{IsBefore}
 
 -- one more access behind the others
@@ -241,19 +238,3 @@ pub fits_ahead : (program : Program) (words : Memory) (block : List ℕ) (now : 
     FitsWord program r.phase (found_by words r.pick.thread.0 block (want program r))
 fits_ahead program words block now r known alive there h =
     fits_there program words r.pick.thread.0 block now known r (action program r r.phase) (looks program r r.phase alive) (fits_alike program r r.phase) there h
-
--- a copying on a page of the board is at a word of its page
-copy_inside : (program : Program) (t commit page : ℕ) (c : Copying) → IsOnBoard program (place_of (copy_access t commit page c)) → IsInPage c
-copy_inside program t commit page (Loading k) there = there.3
-copy_inside program t commit page (Storing k v) there = there.3
-
-copies_there : (program : Program) (r : TaskMachine) (a : Action) → IsOnBoard program (place_of (actions.access_of r a)) → CopiesInPage r.buffer a
-copies_there program r (Put w v) there =
-    λ clean. copy_inside program r.pick.thread.0 r.buffer.commit (w / 8) r.buffer.copying (subst (λ d. IsOnBoard program (place_of (cond d (write_access r.pick.thread.0 r.buffer w v) (copy_access r.pick.thread.0 r.buffer.commit (w / 8) r.buffer.copying)))) clean there)
-copies_there program r (Get w) there = tt
-copies_there program r (Make access) there = tt
-
--- so each access to the board leaves less
-pub access_lowers : (program : Program) (r : TaskMachine) (word : ℕ) → IsAccepted program → FitsTask program r → IsOnBoard program (place_of (want program r)) →
-    left_most program (take program r word) < left_most program r
-access_lowers program r word accepted fits there = (task_lowers program r word accepted fits (copies_there program r (action program r r.phase) there)).0

@@ -1,7 +1,7 @@
 -- How many accesses the service of a pick takes at most.
 use Rattle.task_run.proofs.Common.{◌≡◌, ℕ, ◌<◌, ◌≤◌, false, List, [], ◌∷◌, length, Option, Some, None, arith, refl, TaskId, Program, IsAccepted, ForSome, task_def, first_task, Pick, no_writes, TaskMachine, take, begin, is_over, first_phase, running_task, execution_of, IsServiceOf}
 use Rattle.never_cut.specs.Bounds.{task_bound}
-use Rattle.never_cut.specs.Ranges.{IsTaskOf, IsPickOf}
+use Rattle.never_cut.specs.Ranges.{IsTaskOf}
 use Rattle.task_run.specs.declared.ending.Ending.TheVariants as endings
 use Rattle.task_run.specs.Bounded.{AreServed, task_by, task_of, EveryServiceEnds}
 use Rattle.task_run.specs.kept.LeftMost.{IsInPage, clean_pages, block_pages, left_most}

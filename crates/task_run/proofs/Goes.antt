@@ -6,7 +6,8 @@ use Rattle.ink_layout.specs.Shape.{IsOnBoard}
 use Rattle.task_run.specs.Knows.{CanGoOn}
 use Rattle.task_run.specs.Remaining.{Alone, next_alone, alone, is_committed, GoesOnAlone}
 use Rattle.task_run.specs.kept.Ahead.{found_by, kept_by, IsAhead, GoesAhead}
-use Rattle.task_run.proofs.AheadSteps.{alone_more, takes_same, stays_ahead, fits_ahead, access_lowers}
+use Rattle.task_run.proofs.AheadSteps.{alone_more, takes_same, stays_ahead, fits_ahead}
+use Rattle.task_run.proofs.LeftBounds.{access_lowers}
 use Rattle.task_run.proofs.Remains.{phase_kind, commit_next}
 use Rattle.task_run.proofs.SamePicks.{take_pick}
 

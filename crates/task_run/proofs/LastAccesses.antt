@@ -1,13 +1,12 @@
 -- The last access that remains is the commit, and the commit is the last.
-use Rattle.task_run.proofs.Common.{◌≡◌, ℕ, zero, suc, ◌+◌, Bool, true, false, cond, refl, ap, ◌∙◌, sym, subst, inl, inr, nat_lt, arith, false≢true, Memory, answer, Option, Some, None, TaskId, Origin, Act, Sets, Goes, Loads, Saves, Puts, Sends, Arms, Stops, Continues, Ends, Traps, Program, Cpu, act_of, advance_with, decoded, thread_def, task_def, pipe_def, Ending, Sending, Phase, WriteFirst, WriteOrigin, WriteValue, WriteTaken, ReadPeriod, WriteDue, Resume, Fetch, ReadState, WriteState, ReadCount, StoreLog, WriteCount, LoadReader, LoadTaken, ReadWritten, StoreItem, WriteWritten, WriteArmed, WritePeriod, WriteStopped, WriteNext, WriteFinished, ReadTotal, WriteTotal, WriteStamp, StoreCommit, StoreAck, StoreEmpty, Over, TaskMachine, Action, Put, Get, Make, action, is_late, given_by, cpu_of, want, take, after, after_act, after_action, after_event, after_value, after_written, after_next, end_phase, phase_again, instr_of, at_phase, proceed, trap}
+use Rattle.task_run.proofs.Common.{◌≡◌, ℕ, zero, suc, ◌+◌, Bool, true, false, cond, refl, ap, ◌∙◌, sym, inl, inr, nat_lt, arith, false≢true, Memory, answer, Option, Some, None, TaskId, Origin, Act, Sets, Goes, Loads, Saves, Puts, Sends, Arms, Stops, Continues, Ends, Traps, Program, Cpu, act_of, advance_with, decoded, thread_def, task_def, pipe_def, Ending, Sending, Phase, WriteValue, WriteTaken, WriteDue, Resume, Fetch, ReadState, WriteState, ReadCount, WriteCount, ReadWritten, StoreItem, WriteWritten, WritePeriod, WriteStopped, WriteNext, StoreCommit, StoreAck, StoreEmpty, Over, TaskMachine, Action, Put, Get, Make, action, is_late, given_by, cpu_of, want, after, after_act, after_action, after_event, after_value, after_written, after_next, end_phase, phase_again, instr_of, at_phase, proceed, trap}
 use Rattle.event_pipe.specs.Ring.{has_room}
 use Rattle.ink_base.specs.declared.event.Origin.TheVariants as origins
-use Rattle.ink_layout.specs.declared.kernel_point.KernelPoint.{KernelPoint}
 use Rattle.ink_layout.specs.declared.kernel_point.KernelPoint.TheVariants as points
 use Rattle.task_run.specs.declared.ending.Ending.TheVariants as endings
-use Rattle.task_run.specs.Machine.{after_resume, point, point_at}
+use Rattle.task_run.specs.Machine.{after_resume, point_at}
 use Rattle.task_run.specs.Remaining.{is_committed, IsRemaining, EveryLastCommits, EveryCommitIsLast}
-use Rattle.task_run.proofs.Counting.{machine_next, every_access_counts}
+use Rattle.task_run.proofs.Counting.{machine_next}
 use Rattle.task_run.proofs.Keeping.{IsBefore}
 use Rattle.task_run.proofs.Remains.{phase_kind, commit_next}
 

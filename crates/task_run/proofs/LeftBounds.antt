@@ -1,8 +1,13 @@
--- What is left of a service at most is far below 2^32.
-use Rattle.task_run.proofs.Common.{◌≡◌, ℕ, zero, suc, ◌<◌, ◌≤◌, length, arith, ap, inl, inr, cases_eq, cases_lt, eq-eqb, ne_eqb, bit_at, get_or_past, Program, Task, IsAccepted, thread_def, task_def, first_task, no_task_def, Pick, Buffer, Ending, Execution, Phase, WriteFirst, WriteOrigin, WriteValue, WriteTaken, ReadPeriod, WriteDue, TaskMachine}
+-- What is left of a service at most is far below 2^32, and each access to the board leaves less.
+use Rattle.task_run.proofs.Common.{◌/◌, ◌≡◌, ℕ, zero, suc, ◌<◌, ◌≤◌, length, arith, ap, inl, inr, cases_eq, cases_lt, eq-eqb, ne_eqb, bit_at, get_or_past, Program, Task, IsAccepted, thread_def, task_def, first_task, no_task_def, Pick, Buffer, Ending, Execution, Phase, WriteFirst, WriteOrigin, WriteValue, WriteTaken, ReadPeriod, WriteDue, TaskMachine, Action, Put, Get, Make, action, want, take, FitsTask, Copying, Loading, Storing, copy_access, cond, subst}
 use Rattle.ink_base.specs.declared.limits.TheConstants as limits
 use Rattle.task_run.specs.declared.ending.Ending.TheVariants as endings
-use Rattle.task_run.specs.kept.LeftMost.{clean_pages, block_pages, behind_event, left_in, left_most}
+use Rattle.task_run.specs.kept.LeftMost.{IsInPage, clean_pages, block_pages, behind_event, left_in, left_most}
+use Rattle.thread_state.specs.Pages.{write_access}
+use Rattle.fram_words.specs.Places.{place_of}
+use Rattle.ink_layout.specs.Shape.{IsOnBoard}
+use Rattle.task_run.specs.Actions as actions
+use Rattle.task_run.proofs.LeftFalls.{CopiesInPage, task_lowers}
 use Rattle.task_run.proofs.Accesses.{machine_at}
 
 -- no more than all pages
@@ -46,3 +51,19 @@ left_few program r accepted known =
     let pages = pages_few program r.pick r.stamp accepted known in
     let copies : clean_pages r.buffer.dirty (block_pages program r.pick.thread.0) ≤ block_pages program r.pick.thread.0 = pages_most r.buffer.dirty (block_pages program r.pick.thread.0) in
     omega arith
+
+-- a copying on a page of the board is at a word of its page
+copy_inside : (program : Program) (t commit page : ℕ) (c : Copying) → IsOnBoard program (place_of (copy_access t commit page c)) → IsInPage c
+copy_inside program t commit page (Loading k) there = there.3
+copy_inside program t commit page (Storing k v) there = there.3
+
+copies_there : (program : Program) (r : TaskMachine) (a : Action) → IsOnBoard program (place_of (actions.access_of r a)) → CopiesInPage r.buffer a
+copies_there program r (Put w v) there =
+    λ clean. copy_inside program r.pick.thread.0 r.buffer.commit (w / 8) r.buffer.copying (subst (λ d. IsOnBoard program (place_of (cond d (write_access r.pick.thread.0 r.buffer w v) (copy_access r.pick.thread.0 r.buffer.commit (w / 8) r.buffer.copying)))) clean there)
+copies_there program r (Get w) there = tt
+copies_there program r (Make access) there = tt
+
+-- so each access to the board leaves less
+pub access_lowers : (program : Program) (r : TaskMachine) (word : ℕ) → IsAccepted program → FitsTask program r → IsOnBoard program (place_of (want program r)) →
+    left_most program (take program r word) < left_most program r
+access_lowers program r word accepted fits there = (task_lowers program r word accepted fits (copies_there program r (action program r r.phase) there)).0

@@ -52,3 +52,4 @@ pub mod LeftBounds
 pub mod Goes
 pub mod LastAccesses
 pub mod Opens
+pub mod InRange

@@ -1,5 +1,5 @@
 -- A service is over by its commit or its release alone: every other access leaves it open.
-use Rattle.task_run.proofs.Common.{◌≡◌, ℕ, ◌+◌, ◌/◌, ◌%◌, ◌^◌, false, Option, Some, None, refl, inl, inr, lt-ltb, le-ltb, cases_Bool, cases_lt, TaskId, Origin, Buffer, is_dirty, Act, Sets, Goes, Loads, Saves, Puts, Sends, Arms, Stops, Continues, Ends, Traps, Program, Cpu, advance, advance_with, decoded, thread_def, pipe_def, task_def, Pick, Ending, Execution, Sending, Phase, WriteFirst, WriteOrigin, WriteValue, WriteTaken, ReadPeriod, WriteDue, Resume, Fetch, ReadState, WriteState, ReadCount, StoreLog, WriteCount, LoadReader, LoadTaken, ReadWritten, StoreItem, WriteWritten, WriteArmed, WritePeriod, WriteStopped, WriteNext, WriteFinished, ReadTotal, WriteTotal, WriteStamp, StoreCommit, StoreAck, StoreEmpty, Over, TaskMachine, Action, Put, Get, Make, action, take, after, after_action, after_act, after_event, after_value, after_written, after_next, end_phase, phase_again, proceed, trap, instr_of, cpu_of, given_by, is_late, is_over}
+use Rattle.task_run.proofs.Common.{◌≡◌, ℕ, ◌+◌, ◌/◌, ◌%◌, ◌^◌, false, Option, Some, None, refl, inl, inr, lt-ltb, le-ltb, cases_Bool, cases_lt, TaskId, Origin, Buffer, is_dirty, Act, Sets, Goes, Loads, Saves, Puts, Sends, Arms, Stops, Continues, Ends, Traps, Program, Cpu, advance, advance_with, decoded, thread_def, pipe_def, task_def, Pick, Ending, Execution, Sending, Phase, WriteValue, WriteTaken, WriteDue, Resume, Fetch, ReadState, WriteState, ReadCount, WriteCount, ReadWritten, WriteWritten, WritePeriod, WriteStopped, WriteNext, StoreCommit, StoreEmpty, Over, TaskMachine, Action, Put, Get, Make, action, take, after, after_action, after_act, after_event, after_value, after_written, after_next, end_phase, phase_again, proceed, instr_of, cpu_of, given_by, is_late, is_over}
 use Rattle.ink_base.specs.declared.event.Origin.TheVariants as origins
 use Rattle.event_pipe.specs.Ring.{has_room}
 use Rattle.task_isa.specs.Acts.{act_of}

@@ -122,7 +122,7 @@ every_pick_costs program readings words m pick stamp g p is =
     remains program readings m (cost program m pick.thread.0) words (begin pick stamp) k (pick_costs program words m pick stamp p)
 
 -- a service that was committed stays so
-stays : (program : Program) (n : ℕ) (words : Memory) (pick : Pick) (stamp : ℕ) (b : Buffer) (ending : Ending) (e : Execution) (phase : Phase) → is_committed phase ≡ true →
+pub stays : (program : Program) (n : ℕ) (words : Memory) (pick : Pick) (stamp : ℕ) (b : Buffer) (ending : Ending) (e : Execution) (phase : Phase) → is_committed phase ≡ true →
     is_committed (phase_after program words (machine_at pick stamp b ending e phase) n) ≡ true
 stays program zero words pick stamp b ending e phase over = over
 stays program (suc n) words pick stamp b ending e (StoreAck source count) over =

@@ -2,11 +2,13 @@
 use Rattle.std.specs.Prelude.{◌≡◌, ℕ, zero, suc, ◌<◌, Bool, true, false}
 use Rattle.fram_words.specs.Places.{Memory, perform, answer}
 use Rattle.task_isa.specs.declared.program.Program.{Program}
+use Rattle.prog_check.specs.Accepted.{IsAccepted}
 use Rattle.ink_layout.specs.declared.kernel_point.KernelPoint.TheVariants as points
 use Rattle.ink_layout.specs.declared.pick.Pick.{Pick}
 use Rattle.never_cut.specs.declared.model.Model.{Model}
 use Rattle.never_cut.specs.Cost.{cost}
 use Rattle.never_cut.specs.Entries.{Readings}
+use Rattle.never_cut.specs.Ranges.{IsAnswerTo}
 use Rattle.never_cut.specs.Within.{Lasts}
 use Rattle.never_cut.specs.kept.Actors.{SamePrivate}
 use Rattle.never_cut.specs.kept.Picked.{IsPicked}
@@ -16,6 +18,7 @@ use Rattle.task_run.specs.declared.phase.Phase.TheVariants.{StoreAck, StoreEmpty
 use Rattle.task_run.specs.declared.machine.TaskMachine.{TaskMachine}
 use Rattle.task_run.specs.Machine.{want, take, point, begin}
 use Rattle.task_run.specs.Knows.{Knows, CanGoOn}
+use Rattle.task_run.specs.Reached.{task_loaded, IsServiceOf}
 
 -- the words of a board, and the registers of the machine that makes accesses to them
 pub record Alone : Type 0 where
@@ -53,6 +56,12 @@ abbrev pub GoesOnAlone : Program → Memory → TaskMachine → Type 0
 GoesOnAlone program words r =
     (n : ℕ) → let b = alone program n (record { words = words; machine = r }) in is_committed b.machine.phase ≡ false → CanGoOn program b.words b.machine
 
+-- each word that is found up to the commit lies in the range of its place
+abbrev pub FindsInRange : Program → Memory → TaskMachine → Type 0
+FindsInRange program words r =
+    (n : ℕ) → let b = alone program n (record { words = words; machine = r }) in is_committed b.machine.phase ≡ false →
+    IsAnswerTo program (task_loaded b.machine) (want program b.machine) (answer b.words (want program b.machine))
+
 -- On words that stand for a state, the service of a scan's pick makes as many accesses as the meaning of its task costs.
 abbrev pub EveryPickCosts : Type 0
 EveryPickCosts =
@@ -84,3 +93,8 @@ abbrev pub EveryServiceGoesOn : Type 0
 EveryServiceGoesOn =
     (program : Program) (readings : Readings) (words : Memory) (m : Model) (r : TaskMachine) →
     Background program readings words m → Lasts 0 m → Knows program words m r → GoesOnAlone program words r
+
+-- And so it can where each word that is found lies in its range, from any registers of a service on.
+abbrev pub EveryRangeGoesOn : Type 0
+EveryRangeGoesOn =
+    (program : Program) (words : Memory) (r : TaskMachine) → IsAccepted program → IsServiceOf program r → FindsInRange program words r → GoesOnAlone program words r

@@ -6,9 +6,8 @@ use Rattle.ink_layout.specs.Shape.{IsOnBoard, shape_of}
 use Rattle.task_run.specs.Remaining.{is_committed}
 use Rattle.task_run.specs.kept.Ahead.{found_by, kept_by, GoesAhead}
 use Rattle.task_run.specs.kept.LeftMost.{left_most}
-use Rattle.task_run.proofs.AheadSteps.{access_lowers}
 use Rattle.task_run.proofs.AheadWords.{begins_ahead}
-use Rattle.task_run.proofs.LeftBounds.{left_few}
+use Rattle.task_run.proofs.LeftBounds.{left_few, access_lowers}
 use Rattle.task_run.proofs.Goes.{fits_now, goes_next}
 use Rattle.task_run.proofs.machine.TaskMachine.remaining.Goals as goal
 
