@@ -1,0 +1,3 @@
+-- What only the proofs keep: packets read from bytes, and what every script reaches.
+pub mod Decoding
+pub mod Reached
