@@ -1,0 +1,4 @@
+pub mod Common
+pub mod ReadBack
+pub mod Coded
+pub mod Reaching

@@ -32,7 +32,7 @@ ghost use Rattle.ink_base.specs.Lines.{lines};
 ghost use Rattle.ink_base.specs.Gives.{Gives, GivesJob};
 ghost use Rattle.ink_base.specs.TokenLines.{token_lines};
 ghost use Rattle.ink_base.specs.Tokens.{AreTokens};
-ghost use Rattle.ink_radio.specs.Script.{room_in, script_line, script_end, script_in};
+ghost use Rattle.ink_radio.specs.Script.{room_in, script_end, script_in};
 
 fn room(events: &Items<RadioEvent>) -> Result<(), LineError>
     ensures { Gives (λ x. x) result (room_in events.now) }
@@ -45,6 +45,10 @@ fn room(events: &Items<RadioEvent>) -> Result<(), LineError>
 }
 
 impl Section for Script {
+    ghost use Rattle.std.specs.Prelude.{◌≤◌, length};
+    ghost use Rattle.ink_radio.specs.declared.limits.TheConstants.{SCRIPT_LINES};
+    ghost use Rattle.ink_radio.specs.Script.{script_line};
+
     ghost line = { script_line };
 
     ghost keeps = { λ events. length events ≤ SCRIPT_LINES };

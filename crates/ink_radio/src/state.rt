@@ -28,7 +28,7 @@ pub struct RadioState {
     pub air: Air,
 }
 
-ghost use Rattle.std.specs.Prelude.{◌≡◌, ◌+◌, ◌<◌, ◌≤◌, ◌^◌, min, List, length, count_by, slice_get, All, IfSome, OnOk};
+ghost use Rattle.std.specs.Prelude.{◌≡◌, ◌+◌, ◌<◌, ◌≤◌, ◌^◌, min, List, length, count_by, slice_get, All, IfSome, OnSome, OnOk};
 ghost use Rattle.ink_base.specs.declared.output.Output.{Output as AnOutput};
 ghost use Rattle.ink_radio.specs.declared.event.RadioEvent.TheVariants.{Save};
 ghost use Rattle.ink_radio.specs.Packets.{IsOutput};
@@ -61,7 +61,10 @@ impl RadioState {
 
     // The output at the cursor, where it is committed.
     fn next_output(&self, outputs: &[Output]) -> Option<Output>
-        ensures { result ≡ next_output outputs.now self.now }
+        requires { All (λ output. output.thread.0 < THREADS) outputs.now }
+        ensures next { result ≡ next_output outputs.now self.now }
+        ensures committed { OnSome result (self.now.cursor < self.now.grown) }
+        ensures sendable { IfSome result IsOutput }
     {
         if self.cursor < self.grown {
             at(outputs, self.cursor as usize).copied()
@@ -71,12 +74,11 @@ impl RadioState {
     }
 
     // The node sends the output at its cursor, if it has one there.
-    fn send(&mut self, alloc: Global, next: Option<Output>) -> Result<(), NoMemory>
-        requires fits { self.old.cursor < OUTPUTS }
-        requires output { IfSome next IsOutput }
-        ensures { OnOk result (self.new ≡ after_send self.old next) }
+    fn send(&mut self, alloc: Global, outputs: &[Output]) -> Result<(), NoMemory>
+        requires { All (λ output. output.thread.0 < THREADS) outputs.now }
+        ensures { OnOk result (self.new ≡ after_send self.old (next_output outputs.now self.old)) }
     {
-        if let Some(output) = next {
+        if let Some(output) = self.next_output(outputs) {
             let number = self.cursor;
             self.air.send(alloc, &Packet::Data { number, output })?;
             self.cursor = number + 1;
@@ -140,10 +142,7 @@ impl RadioState {
     {
         match event {
             RadioEvent::Grow(count) => self.grow(count, outputs.len()),
-            RadioEvent::Send => {
-                let next = self.next_output(outputs);
-                self.send(alloc, next)?;
-            }
+            RadioEvent::Send => self.send(alloc, outputs)?,
             RadioEvent::Rewind | RadioEvent::NodeCut => self.cursor = self.acked,
             RadioEvent::ToBase(number) => {
                 let packet = self.packet(number);
