@@ -34,6 +34,10 @@ at_node s None = s
 at_node s (Some (Data number output)) = s
 at_node s (Some (Ack count)) = record s { acked = max s.acked count; cursor = max s.cursor count }
 
+-- the base saves what it has, and sends how much that is
+abbrev pub after_save : RadioState → RadioState
+after_save s = record s { saved = s.saved ++ s.fresh; fresh = []; air = s.air ++ Ack (length s.saved + length s.fresh) ∷ [] }
+
 -- what an event makes of a state, where these are all outputs of the node
 abbrev pub after_event : List Output → RadioState → RadioEvent → RadioState
 after_event outputs s (Grow count) = record s { grown = min (s.grown + count) (length outputs) }
@@ -42,7 +46,7 @@ after_event outputs s Rewind = record s { cursor = s.acked }
 after_event outputs s NodeCut = record s { cursor = s.acked }
 after_event outputs s (ToBase packet) = at_base s (slice_get s.air packet)
 after_event outputs s (ToNode packet) = at_node s (slice_get s.air packet)
-after_event outputs s Save = record s { saved = s.saved ++ s.fresh; fresh = []; air = s.air ++ Ack (length s.saved + length s.fresh) ∷ [] }
+after_event outputs s Save = after_save s
 after_event outputs s BaseCut = record s { fresh = [] }
 
 -- the state after a script

@@ -2,7 +2,7 @@
 
 use crate::air::Air;
 use crate::event::RadioEvent;
-use crate::limits::OUTPUTS;
+use crate::limits::{OUTPUTS, SCRIPT_LINES};
 use crate::packet::Packet;
 use crate::record::RadioRecord;
 use ink_base::limits::THREADS;
@@ -28,11 +28,10 @@ pub struct RadioState {
     pub air: Air,
 }
 
-ghost use Rattle.std.specs.Prelude.{◌≡◌, ◌+◌, ◌<◌, ◌≤◌, ◌^◌, min, List, length, count_by, slice_get, All, IfSome, OnSome, OnOk};
-ghost use Rattle.ink_base.specs.declared.output.Output.{Output as AnOutput};
-ghost use Rattle.ink_radio.specs.declared.event.RadioEvent.TheVariants.{Save};
+ghost use Rattle.std.specs.Prelude.{◌≡◌, ◌+◌, ◌<◌, ◌≤◌, min, length, count_by, slice_get, All, IfSome, OnSome, OnOk};
 ghost use Rattle.ink_radio.specs.Packets.{IsOutput};
-ghost use Rattle.ink_radio.specs.Radio.{quiet, next_output, after_send, at_base, at_node, after_event, is_data, record_of};
+ghost use Rattle.ink_radio.specs.Radio.{quiet, next_output, after_send, at_base, at_node, after_save, after_event, is_data, record_of};
+ghost use Rattle.ink_radio.specs.kept.Counting.{has_data};
 ghost use Rattle.ink_radio.specs.kept.Reached.{IsReached};
 
 impl RadioState {
@@ -119,7 +118,7 @@ impl RadioState {
     // The base saves what it has, and sends how much that is.
     fn save(&mut self, alloc: Global) -> Result<(), NoMemory>
         requires { length self.old.saved + length self.old.fresh ≤ OUTPUTS }
-        ensures { (outputs : List AnOutput) → OnOk result (self.new ≡ after_event outputs self.old Save) }
+        ensures { OnOk result (self.new ≡ after_save self.old) }
     {
         let count = (self.saved.len() + self.fresh.len()) as u32;
         self.air.send(alloc, &Packet::Ack { count })?;
@@ -160,7 +159,7 @@ impl RadioState {
 
     /// What is told of the state.
     pub fn into_record(self) -> RadioRecord
-        requires { length self.air < 2 ^ 32 }
+        requires { length self.air ≤ SCRIPT_LINES }
         ensures { result ≡ record_of self }
     {
         let sent = data_count(&self.air);
@@ -181,14 +180,21 @@ impl RadioState {
     }
 }
 
+// Whether a packet is there and is an output.
+fn has_data(packet: Option<Packet>) -> bool
+    ensures { result ≡ has_data packet }
+{
+    matches!(packet, Some(Packet::Data { .. }))
+}
+
 // How many of the packets are outputs.
 fn data_count(air: &Air) -> u32
-    requires { length air.now < 2 ^ 32 }
+    requires { length air.now ≤ SCRIPT_LINES }
     ensures { result ≡ count_by is_data air.now }
 {
     let mut count = 0;
     for number in 0..air.len() as u32 {
-        if let Some(Packet::Data { .. }) = air.packet(number) {
+        if has_data(air.packet(number)) {
             count += 1;
         }
     }
