@@ -1,5 +1,5 @@
 -- How many of the packets up to a number are Data.
-use Rattle.ink_radio.proofs.Common.{◌≡◌, ℕ, ◌+◌, ◌<◌, true, false, List, length, get_or, take, count_by, slice_get, Some, sym, ap, ◌∙◌}
+use Rattle.ink_radio.proofs.Common.{◌≡◌, ℕ, ◌+◌, ◌<◌, true, false, List, length, take, count_by, slice_get, sym, ap, ◌∙◌}
 use Rattle.std.proofs.lemmas.List.Sums.{count_by_more_yes, count_by_more_no}
 use Rattle.std.proofs.lemmas.Option.{slice_get-get_or}
 use Rattle.ink_radio.specs.declared.packet.Packet.{Packet}

@@ -1,8 +1,8 @@
 -- What holds of each state that a script reaches: at the beginning, and after each event.
-use Rattle.ink_radio.proofs.Common.{◌≡◌, ◌⊎◌, inl, inr, ℕ, zero, suc, ◌+◌, ◌<◌, ◌≤◌, min, max, Bool, true, false, cond, eqb, ltb, List, [], ◌∷◌, ◌++◌, length, get_or, take, drop, fold, slice_get, Option, Some, None, refl, sym, ap, subst, ◌∙◌, append_assoc, arith}
+use Rattle.ink_radio.proofs.Common.{◌≡◌, ℕ, ◌+◌, ◌<◌, ◌≤◌, min, Bool, true, false, cond, eqb, ltb, List, [], ◌∷◌, ◌++◌, length, get_or, take, drop, fold, slice_get, Option, Some, None, refl, sym, ap, subst, ◌∙◌, append_assoc, arith}
 use Rattle.std.specs.List.{AllByRecursion}
 use Rattle.std.proofs.lemmas.Bool.{eqb-true, ltb-true}
-use Rattle.std.proofs.lemmas.List.{append-nil, length-append, length-take, take-append-drop, take-take, take_at, take_more, length_push}
+use Rattle.std.proofs.lemmas.List.{append-nil, length-append, take-append-drop, take-take, take_at, take_more, length_push}
 use Rattle.std.proofs.lemmas.List.Sums.{fold_more}
 use Rattle.std.proofs.lemmas.Option.{slice_get_within, get_or_from_slice_get}
 use Rattle.ink_base.specs.declared.output.Output.{Output}
@@ -53,7 +53,10 @@ send_reaches outputs s None is e = is
 send_reaches outputs s (Some output) is e =
     let t = let_through (ltb s.cursor s.grown) (slice_get outputs s.cursor) output e in
     record {
-      grown = is.grown; taken = is.taken; front = is.front; acked = is.acked;
+      grown = is.grown;
+      taken = is.taken;
+      front = is.front;
+      acked = is.acked;
       sent = all_push (IsSent outputs s.grown (length s.saved)) s.air (Data s.cursor output) is.sent (ltb-true s.cursor s.grown t.0, t.1);
     }
 
@@ -63,7 +66,9 @@ output_reaches : (outputs : List Output) (s : RadioState) (output : Output) (fol
     → IsReached outputs (cond follows (record s { fresh = s.fresh ++ output ∷ [] }) s)
 output_reaches outputs s output false is here = is
 output_reaches outputs s output true is here = record {
-  grown = is.grown; sent = is.sent; acked = is.acked;
+  grown = is.grown;
+  sent = is.sent;
+  acked = is.acked;
   taken = omega (arith, (here refl).0, length_push s.fresh output);
   front = front_more outputs s.saved s.fresh output is.front (here refl).1;
 }
@@ -75,8 +80,8 @@ base_reaches outputs s (Some (Ack count)) is sent = is
 base_reaches outputs s (Some (Data number output)) is sent =
     output_reaches outputs s output (eqb number (length s.saved + length s.fresh)) is
     (λ e.
-      let same = eqb-true number (length s.saved + length s.fresh) e in
-      subst (λ n. (n < s.grown) × (slice_get outputs n ≡ Some output)) same (sent (Data number output) refl))
+    let same = eqb-true number (length s.saved + length s.fresh) e in
+    subst (λ n. (n < s.grown) × (slice_get outputs n ≡ Some output)) same (sent (Data number output) refl))
 
 node_reaches : (outputs : List Output) (s : RadioState) (packet : Option Packet) → IsReached outputs s → ((p : Packet) → packet ≡ Some p → IsSent outputs s.grown (length s.saved) p)
     → IsReached outputs (at_node s packet)
@@ -94,8 +99,8 @@ save_reaches outputs s is =
       taken = omega (arith, is.taken, all);
       front = append-nil (s.saved ++ s.fresh) ∙ is.front ∙ ap (λ n. take n outputs) (omega (arith, all));
       sent =
-        all_push (IsSent outputs s.grown (length (s.saved ++ s.fresh))) s.air (Ack (length s.saved + length s.fresh))
-        (all_sent_then outputs s.grown (length s.saved) s.grown (length (s.saved ++ s.fresh)) s.air (omega arith) (omega (arith, all)) is.sent) (omega (arith, all));
+          all_push (IsSent outputs s.grown (length (s.saved ++ s.fresh))) s.air (Ack (length s.saved + length s.fresh))
+          (all_sent_then outputs s.grown (length s.saved) s.grown (length (s.saved ++ s.fresh)) s.air (omega arith) (omega (arith, all)) is.sent) (omega (arith, all));
       acked = omega (arith, is.acked, all);
     }
 
@@ -104,7 +109,10 @@ pub event_reaches : (outputs : List Output) (s : RadioState) (event : RadioEvent
 event_reaches outputs s (Grow count) is =
     let grown = min (s.grown + count) (length outputs) in
     record {
-      grown = omega (arith, is.grown); taken = omega (arith, is.grown, is.taken); front = is.front; acked = is.acked;
+      grown = omega (arith, is.grown);
+      taken = omega (arith, is.grown, is.taken);
+      front = is.front;
+      acked = is.acked;
       sent = all_sent_then outputs s.grown (length s.saved) grown (length s.saved) s.air (omega (arith, is.grown)) (omega arith) is.sent;
     }
 event_reaches outputs s Send is = send_reaches outputs s (next_output outputs s) is refl

@@ -1,5 +1,5 @@
 -- A packet that is read has the bytes that it was read from, and what was written is read again.
-use Rattle.ink_radio.proofs.Common.{◌≡◌, ◌≢◌, ◌⊎◌, inl, inr, ℕ, suc, ◌+◌, ◌^◌, ◌<◌, ◌≤◌, Bool, true, false, cond, eqb, ltb, List, [], ◌∷◌, ◌++◌, length, get_or, take, drop, Option, Some, None, IfSome, refl, sym, ap, subst, ◌∙◌, append_assoc, arith}
+use Rattle.ink_radio.proofs.Common.{◌≡◌, ◌≢◌, ◌⊎◌, inl, inr, ℕ, suc, ◌+◌, ◌^◌, ◌<◌, ◌≤◌, Bool, true, false, cond, eqb, ltb, List, [], ◌∷◌, ◌++◌, length, get_or, take, drop, Option, Some, None, IfSome, refl, sym, ap, subst, ◌∙◌, arith}
 use Rattle.std.specs.Int.{Width, w32, w64, byte_len, from_be_bytes, to_be_bytes}
 use Rattle.std.proofs.lemmas.Bool.{cases_lt, eqb-true, ltb-false, ltb-true, le-ltb, lt-ltb}
 use Rattle.std.proofs.lemmas.List.{append-nil, take_at, drop_at, take-append-drop, length-append, length-take, get_or-drop, get_or-take, get_or_past}
@@ -95,9 +95,10 @@ number_takes w limit wide bytes n rest fits e =
     let n-is : from_be_bytes w (take (byte_len w) bytes) ≡ n = ap (λ (p : ℕ × List ℕ). p.0) g.1 in
     let rest-is : drop (byte_len w) bytes ≡ rest = ap (λ (p : ℕ × List ℕ). p.1) g.1 in
     let front : to_be_bytes w n ≡ take (byte_len w) bytes =
-      rw (← n-is) (wide.back (take (byte_len w) bytes) (omega (arith, length-take (byte_len w) bytes)) (IsBytes-take (byte_len w) bytes fits)) in
-    (record { parts = rw (front, ← rest-is) (sym (take-append-drop (byte_len w) bytes)); rest_fits = rw (← rest-is) (IsBytes-drop (byte_len w) bytes fits) },
-     rw (← n-is) (wide.below (take (byte_len w) bytes) (IsBytes-take (byte_len w) bytes fits)))
+    rw (← n-is) (wide.back (take (byte_len w) bytes) (omega (arith, length-take (byte_len w) bytes)) (IsBytes-take (byte_len w) bytes fits)) in (
+      record { parts = rw (front, ← rest-is) (sym (take-append-drop (byte_len w) bytes)); rest_fits = rw (← rest-is) (IsBytes-drop (byte_len w) bytes fits) },
+      rw (← n-is) (wide.below (take (byte_len w) bytes) (IsBytes-take (byte_len w) bytes fits)),
+    )
 
 number_again : (w : Width) (limit : ℕ) (wide : IsWide w limit) (n : ℕ) (rest : List ℕ) → n < limit → number_at w (to_be_bytes w n ++ rest) ≡ Some (n, rest)
 number_again w limit wide n rest lt =
@@ -176,15 +177,15 @@ kind_takes : (b : ℕ) (rest : List ℕ) (packet : Packet) → IsBytes rest → 
 kind_takes b rest packet fits e =
     elim (chosen (eqb b 68) (data_at rest) (cond (eqb b 65) (ack_at rest) None) (Some packet) e) [
       | inl is ↦
-        let r = data_takes rest packet fits is.1 in
-        (ap (λ (x : ℕ). x ∷ rest) (eqb-true b 68 is.0) ∙ r.0, r.1)
+          let r = data_takes rest packet fits is.1 in
+          (ap (λ (x : ℕ). x ∷ rest) (eqb-true b 68 is.0) ∙ r.0, r.1)
       | inr other ↦
-        elim (chosen (eqb b 65) (ack_at rest) None (Some packet) other.1) [
-          | inl is ↦
-            let r = ack_takes rest packet fits is.1 in
-            (ap (λ (x : ℕ). x ∷ rest) (eqb-true b 65 is.0) ∙ r.0, r.1)
-          | inr none ↦ absurd (let h : None ≡ Some packet = none.1 in cc)
-        ]
+          elim (chosen (eqb b 65) (ack_at rest) None (Some packet) other.1) [
+            | inl is ↦
+                let r = ack_takes rest packet fits is.1 in
+                (ap (λ (x : ℕ). x ∷ rest) (eqb-true b 65 is.0) ∙ r.0, r.1)
+            | inr none ↦ absurd (let h : None ≡ Some packet = none.1 in cc)
+          ]
     ]
 
 pub packet_takes : (bytes : List ℕ) (packet : Packet) → IsBytes bytes → packet_in bytes ≡ Some packet → (bytes ≡ packet_bytes packet) × IsPacket packet

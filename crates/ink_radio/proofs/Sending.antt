@@ -1,5 +1,5 @@
 -- An event sends at most one packet, so a script sends at most as many as it has events.
-use Rattle.ink_radio.proofs.Common.{◌≡◌, ℕ, ◌+◌, ◌≤◌, Bool, true, false, cond, eqb, List, [], ◌∷◌, ◌++◌, length, fold, slice_get, Option, Some, None, arith}
+use Rattle.ink_radio.proofs.Common.{◌+◌, ◌≤◌, Bool, true, false, cond, eqb, List, [], ◌∷◌, ◌++◌, length, fold, slice_get, Option, Some, None, arith}
 use Rattle.std.proofs.lemmas.List.{length_push}
 use Rattle.ink_base.specs.declared.output.Output.{Output}
 use Rattle.ink_radio.specs.declared.packet.Packet.{Packet}

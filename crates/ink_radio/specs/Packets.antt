@@ -1,5 +1,5 @@
 -- The bytes of packets.
-use Rattle.std.specs.Prelude.{ℕ, ◌<◌, ◌^◌, List, [], ◌∷◌, ◌++◌}
+use Rattle.std.specs.Prelude.{ℕ, ◌<◌, ◌^◌, List, ◌∷◌, ◌++◌}
 use Rattle.std.specs.Int.{w32, w64, to_be_bytes}
 use Rattle.ink_base.specs.declared.limits.TheConstants as limits
 use Rattle.ink_base.specs.declared.output.Output.{Output}

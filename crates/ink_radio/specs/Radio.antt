@@ -1,5 +1,5 @@
 -- A node and a base over a radio that loses, repeats and reorders packets.
-use Rattle.std.specs.Prelude.{ℕ, ◌+◌, min, max, Bool, true, false, List, [], ◌∷◌, ◌++◌, length, map, fold, count_by, slice_get, Option, Some, None, nat_lt, ◌==◌, if◌then◌else◌}
+use Rattle.std.specs.Prelude.{◌+◌, min, max, Bool, true, false, List, [], ◌∷◌, ◌++◌, length, map, fold, count_by, slice_get, Option, Some, None, nat_lt, ◌==◌, if◌then◌else◌}
 use Rattle.ink_base.specs.declared.output.Output.{Output}
 use Rattle.ink_radio.specs.declared.packet.Packet.{Packet}
 use Rattle.ink_radio.specs.declared.packet.Packet.TheVariants.{Data, Ack}

@@ -6,7 +6,7 @@ use Rattle.ink_base.specs.Lines.{Word, Line}
 use Rattle.ink_base.specs.declared.fault.Cause.{Cause}
 use Rattle.ink_base.specs.declared.fault.Cause.TheVariants.{UnknownWord, OverLimit}
 use Rattle.ink_base.specs.declared.fault.JobFault.{JobFault}
-use Rattle.ink_base.specs.Gives.{◌>>=◌, ◌>>◌, at_line}
+use Rattle.ink_base.specs.Gives.{◌>>=◌, ◌>>◌}
 use Rattle.ink_base.specs.Checks.{word_in, number_in, end_in}
 use Rattle.ink_text.specs.Words.{found}
 use Rattle.ink_text.specs.Section.{section_in}

@@ -1,7 +1,9 @@
 //! The limits of a radio's script.
 
-/// The most outputs that all threads of a board log.
-pub const OUTPUTS: usize = 65_536;
+use ink_base::limits::{LOG_PLACES, THREADS};
+
+/// The most outputs of a board: as many as all threads may log.
+pub const OUTPUTS: usize = THREADS * LOG_PLACES as usize;
 
 /// The most lines of a script.
 pub const SCRIPT_LINES: usize = 65_536;

@@ -1,5 +1,5 @@
 use Rattle.ink_radio.proofs.Common.{ap, ◌∙◌, ◌++◌, ◌∷◌, []}
-use Rattle.ink_radio.specs.kept.Decoding.{packet_of, IsCoded}
+use Rattle.ink_radio.specs.kept.Decoding.{IsCoded}
 use Rattle.ink_radio.proofs.Coded.{all_push, coded, coded_push}
 use Rattle.ink_radio.proofs.air.Air.send.Goals as goal
 
