@@ -63,6 +63,14 @@ record Takes (bytes text rest : List ℕ) : Type 0 where
   parts : bytes ≡ text ++ rest
   rest_fits : IsBytes rest
 
+-- where nothing is left
+takes_all : (bytes text rest : List ℕ) → bytes ≡ text ++ rest → rest ≡ [] → bytes ≡ text
+takes_all bytes text rest parts none = parts ∙ ap (λ (r : List ℕ). text ++ r) none ∙ append-nil text
+
+-- where this is left
+takes_then : (bytes text rest more : List ℕ) → bytes ≡ text ++ rest → rest ≡ more → bytes ≡ text ++ more
+takes_then bytes text rest more parts same = parts ∙ ap (λ (r : List ℕ). text ++ r) same
+
 -- ---- numbers
 
 record IsWide (w : Width) (limit : ℕ) : Type 0 where
@@ -133,9 +141,9 @@ output_takes bytes output fits e =
     let stamp = number_takes w64 (2 ^ 64) wide64 bytes a.0.0 a.0.1 fits a.1 in
     let thread = thread_takes a.0.1 b.0.0 b.0.1 stamp.0.rest_fits b.1 in
     let value = number_takes w32 (2 ^ 32) wide32 b.0.1 c.0.0 c.0.1 thread.0.rest_fits c.1 in
-    let last : b.0.1 ≡ to_be_bytes w32 c.0.0 = value.0.parts ∙ ap (λ (r : List ℕ). to_be_bytes w32 c.0.0 ++ r) d.0 ∙ append-nil (to_be_bytes w32 c.0.0) in
-    let behind : a.0.1 ≡ b.0.0.0 ∷ to_be_bytes w32 c.0.0 = thread.0.parts ∙ ap (λ (r : List ℕ). b.0.0.0 ∷ r) last in
-    let whole : bytes ≡ to_be_bytes w64 a.0.0 ++ b.0.0.0 ∷ to_be_bytes w32 c.0.0 = stamp.0.parts ∙ ap (λ (r : List ℕ). to_be_bytes w64 a.0.0 ++ r) behind in
+    let last : b.0.1 ≡ to_be_bytes w32 c.0.0 = takes_all b.0.1 (to_be_bytes w32 c.0.0) c.0.1 value.0.parts d.0 in
+    let behind : a.0.1 ≡ b.0.0.0 ∷ to_be_bytes w32 c.0.0 = takes_then a.0.1 (b.0.0.0 ∷ []) b.0.1 (to_be_bytes w32 c.0.0) thread.0.parts last in
+    let whole : bytes ≡ to_be_bytes w64 a.0.0 ++ b.0.0.0 ∷ to_be_bytes w32 c.0.0 = takes_then bytes (to_be_bytes w64 a.0.0) a.0.1 (b.0.0.0 ∷ to_be_bytes w32 c.0.0) stamp.0.parts behind in
     subst (λ (o : Output). (bytes ≡ output_bytes o) × IsOutput o) d.1 (whole, record { stamp = stamp.1; thread = thread.1; value = value.1 })
 
 output_again : (output : Output) → IsOutput output → output_at (output_bytes output) ≡ Some output
@@ -158,7 +166,7 @@ data_takes bytes packet fits e =
     let b = bind_some (output_at a.0.1) (λ output. Some (Data a.0.0 output)) packet a.2 in
     let number = number_takes w32 (2 ^ 32) wide32 bytes a.0.0 a.0.1 fits a.1 in
     let output = output_takes a.0.1 b.0 number.0.rest_fits b.1 in
-    let whole : bytes ≡ to_be_bytes w32 a.0.0 ++ output_bytes b.0 = number.0.parts ∙ ap (λ (r : List ℕ). to_be_bytes w32 a.0.0 ++ r) output.0 in
+    let whole : bytes ≡ to_be_bytes w32 a.0.0 ++ output_bytes b.0 = takes_then bytes (to_be_bytes w32 a.0.0) a.0.1 (output_bytes b.0) number.0.parts output.0 in
     let is : Data a.0.0 b.0 ≡ packet = cc in
     subst (λ (p : Packet). (68 ∷ bytes ≡ packet_bytes p) × IsPacket p) is (ap (λ (r : List ℕ). 68 ∷ r) whole, (number.1, output.1))
 
@@ -168,7 +176,7 @@ ack_takes bytes packet fits e =
     let a = bind_some (number_at w32 bytes) (λ count. ended (Ack count.0) count.1) packet e in
     let d = end_takes (Ack a.0.0) packet a.0.1 a.2 in
     let count = number_takes w32 (2 ^ 32) wide32 bytes a.0.0 a.0.1 fits a.1 in
-    let whole : bytes ≡ to_be_bytes w32 a.0.0 = count.0.parts ∙ ap (λ (r : List ℕ). to_be_bytes w32 a.0.0 ++ r) d.0 ∙ append-nil (to_be_bytes w32 a.0.0) in
+    let whole : bytes ≡ to_be_bytes w32 a.0.0 = takes_all bytes (to_be_bytes w32 a.0.0) a.0.1 count.0.parts d.0 in
     subst (λ (p : Packet). (65 ∷ bytes ≡ packet_bytes p) × IsPacket p) d.1 (ap (λ (r : List ℕ). 65 ∷ r) whole, count.1)
 
 -- what follows the first byte, by the tests of it
