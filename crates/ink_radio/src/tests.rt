@@ -129,7 +129,8 @@ fn scripts_lead_to(rt: HostRuntime) -> Result<(), Fail> {
 fn outputs_and_packets(rt: HostRuntime) -> Result<(), Fail> {
     let record = told(rt.alloc(), SCRIPTS[0].0)?;
     assert_eq!(rt; record.saved.as_slice(), [FIRST, SECOND].as_slice());
-    assert_eq!(rt; record.air.as_slice()[0].as_slice(), DATA.as_slice());
+    let packet = record.air.get(0).ok_or("a packet was sent")?;
+    assert_eq!(rt; packet.as_slice(), DATA.as_slice());
     Ok(())
 }
 
