@@ -6,3 +6,4 @@ pub mod Report
 pub mod Conditions
 pub mod Sweep
 pub mod kept
+pub mod Radio
