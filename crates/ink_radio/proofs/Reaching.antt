@@ -54,7 +54,7 @@ send_reaches outputs s (Some output) is e =
     let t = let_through (ltb s.cursor s.grown) (slice_get outputs s.cursor) output e in
     record {
       grown = is.grown;
-      taken = is.taken;
+      count = is.count;
       front = is.front;
       acked = is.acked;
       sent = all_push (IsSent outputs s.grown (length s.saved)) s.air (Data s.cursor output) is.sent (ltb-true s.cursor s.grown t.0, t.1);
@@ -69,7 +69,7 @@ output_reaches outputs s output true is here = record {
   grown = is.grown;
   sent = is.sent;
   acked = is.acked;
-  taken = omega (arith, (here refl).0, length_push s.fresh output);
+  count = omega (arith, (here refl).0, length_push s.fresh output);
   front = front_more outputs s.saved s.fresh output is.front (here refl).1;
 }
 
@@ -89,14 +89,14 @@ node_reaches outputs s None is sent = is
 node_reaches outputs s (Some (Data number output)) is sent = is
 node_reaches outputs s (Some (Ack count)) is sent =
     let counted : count ≤ length s.saved = sent (Ack count) refl in
-    record { grown = is.grown; taken = is.taken; front = is.front; sent = is.sent; acked = omega (arith, is.acked, counted) }
+    record { grown = is.grown; count = is.count; front = is.front; sent = is.sent; acked = omega (arith, is.acked, counted) }
 
 save_reaches : (outputs : List Output) (s : RadioState) → IsReached outputs s → IsReached outputs (after_event outputs s Save)
 save_reaches outputs s is =
     let all = length-append s.saved s.fresh in
     record {
       grown = is.grown;
-      taken = omega (arith, is.taken, all);
+      count = omega (arith, is.count, all);
       front = append-nil (s.saved ++ s.fresh) ∙ is.front ∙ ap (λ n. take n outputs) (omega (arith, all));
       sent =
           all_push (IsSent outputs s.grown (length (s.saved ++ s.fresh))) s.air (Ack (length s.saved + length s.fresh))
@@ -110,26 +110,26 @@ event_reaches outputs s (Grow count) is =
     let grown = min (s.grown + count) (length outputs) in
     record {
       grown = omega (arith, is.grown);
-      taken = omega (arith, is.grown, is.taken);
+      count = omega (arith, is.grown, is.count);
       front = is.front;
       acked = is.acked;
       sent = all_sent_then outputs s.grown (length s.saved) grown (length s.saved) s.air (omega (arith, is.grown)) (omega arith) is.sent;
     }
 event_reaches outputs s Send is = send_reaches outputs s (next_output outputs s) is refl
-event_reaches outputs s Rewind is = record { grown = is.grown; taken = is.taken; front = is.front; sent = is.sent; acked = is.acked }
-event_reaches outputs s NodeCut is = record { grown = is.grown; taken = is.taken; front = is.front; sent = is.sent; acked = is.acked }
+event_reaches outputs s Rewind is = record { grown = is.grown; count = is.count; front = is.front; sent = is.sent; acked = is.acked }
+event_reaches outputs s NodeCut is = record { grown = is.grown; count = is.count; front = is.front; sent = is.sent; acked = is.acked }
 event_reaches outputs s (ToBase number) is = base_reaches outputs s (slice_get s.air number) is (λ p e. all_at (IsSent outputs s.grown (length s.saved)) s.air number p is.sent e)
 event_reaches outputs s (ToNode number) is = node_reaches outputs s (slice_get s.air number) is (λ p e. all_at (IsSent outputs s.grown (length s.saved)) s.air number p is.sent e)
 event_reaches outputs s Save is = save_reaches outputs s is
 event_reaches outputs s BaseCut is =
-    record { grown = is.grown; taken = omega (arith, is.taken); front = front_saved outputs s.saved s.fresh is.front; sent = is.sent; acked = is.acked }
+    record { grown = is.grown; count = omega (arith, is.count); front = front_saved outputs s.saved s.fresh is.front; sent = is.sent; acked = is.acked }
 
 from_reaches : (outputs : List Output) (s : RadioState) (script : List RadioEvent) → IsReached outputs s → IsReached outputs (fold (after_event outputs) s script)
 from_reaches outputs s [] is = is
 from_reaches outputs s (event ∷ script) is = from_reaches outputs (after_event outputs s event) script (event_reaches outputs s event is)
 
 quiet_reached : (outputs : List Output) → IsReached outputs quiet
-quiet_reached outputs = record { grown = omega arith; taken = omega arith; front = refl; sent = tt; acked = omega arith }
+quiet_reached outputs = record { grown = omega arith; count = omega arith; front = refl; sent = tt; acked = omega arith }
 
 pub played_reaches : (outputs : List Output) (script : List RadioEvent) → IsReached outputs (played outputs script)
 played_reaches outputs script = from_reaches outputs quiet script (quiet_reached outputs)
@@ -140,7 +140,7 @@ reached_keeps outputs s is =
     let n = length s.saved + length s.fresh in
     let all = take s.grown outputs in
     record {
-      prefix = (drop n all, ap (λ xs. xs ++ drop n all) (is.front ∙ sym (take-take n s.grown outputs is.taken)) ∙ take-append-drop n all);
+      prefix = (drop n all, ap (λ xs. xs ++ drop n all) (is.front ∙ sym (take-take n s.grown outputs is.count)) ∙ take-append-drop n all);
       acked = is.acked;
     }
 

@@ -1,5 +1,5 @@
 -- The bytes of packets.
-use Rattle.std.specs.Prelude.{ℕ, ◌<◌, ◌^◌, List, ◌∷◌, ◌++◌}
+use Rattle.std.specs.Prelude.{ℕ, ◌<◌, ◌^◌, List, ◌∷◌, ◌++◌, codes}
 use Rattle.std.specs.Int.{w32, w64, to_be_bytes}
 use Rattle.ink_base.specs.declared.limits.TheConstants as limits
 use Rattle.ink_base.specs.declared.output.Output.{Output}
@@ -23,5 +23,5 @@ output_bytes output = to_be_bytes w64 output.stamp ++ output.thread.0 ∷ to_be_
 
 -- `D`, the output's number in 4 bytes, and the output; or `A` and a count in 4 bytes. Of each number the most significant byte comes first.
 abbrev pub packet_bytes : Packet → List ℕ
-packet_bytes (Data number output) = 68 ∷ to_be_bytes w32 number ++ output_bytes output
-packet_bytes (Ack count) = 65 ∷ to_be_bytes w32 count
+packet_bytes (Data number output) = codes "D" ++ to_be_bytes w32 number ++ output_bytes output
+packet_bytes (Ack count) = codes "A" ++ to_be_bytes w32 count

@@ -1,5 +1,5 @@
 -- A node and a base over a radio that loses, repeats and reorders packets.
-use Rattle.std.specs.Prelude.{◌+◌, min, max, Bool, true, false, List, [], ◌∷◌, ◌++◌, length, map, fold, count_by, slice_get, Option, Some, None, nat_lt, ◌==◌, if◌then◌else◌}
+use Rattle.std.specs.Prelude.{ℕ, ◌+◌, min, max, Bool, true, false, List, [], ◌∷◌, ◌++◌, length, map, fold, count_by, slice_get, Option, Some, None, nat_lt, ◌==◌, if◌then◌else◌}
 use Rattle.ink_base.specs.declared.output.Output.{Output}
 use Rattle.ink_radio.specs.declared.packet.Packet.{Packet}
 use Rattle.ink_radio.specs.declared.packet.Packet.TheVariants.{Data, Ack}
@@ -22,11 +22,15 @@ abbrev pub after_send : RadioState → Option Output → RadioState
 after_send s None = s
 after_send s (Some output) = record s { cursor = s.cursor + 1; air = s.air ++ Data s.cursor output ∷ [] }
 
+-- how many outputs the base has
+abbrev pub taken : RadioState → ℕ
+taken s = length s.saved + length s.fresh
+
 -- a packet comes to the base: it takes the output that follows those that it has
 abbrev pub at_base : RadioState → Option Packet → RadioState
 at_base s None = s
 at_base s (Some (Ack count)) = s
-at_base s (Some (Data number output)) = if number == length s.saved + length s.fresh then record s { fresh = s.fresh ++ output ∷ [] } else s
+at_base s (Some (Data number output)) = if number == taken s then record s { fresh = s.fresh ++ output ∷ [] } else s
 
 -- a packet comes to the node: it learns how many outputs are saved
 abbrev pub at_node : RadioState → Option Packet → RadioState
@@ -36,7 +40,7 @@ at_node s (Some (Ack count)) = record s { acked = max s.acked count; cursor = ma
 
 -- the base saves what it has, and sends how much that is
 abbrev pub after_save : RadioState → RadioState
-after_save s = record s { saved = s.saved ++ s.fresh; fresh = []; air = s.air ++ Ack (length s.saved + length s.fresh) ∷ [] }
+after_save s = record s { saved = s.saved ++ s.fresh; fresh = []; air = s.air ++ Ack (taken s) ∷ [] }
 
 -- what an event makes of a state, where these are all outputs of the node
 abbrev pub after_event : List Output → RadioState → RadioEvent → RadioState

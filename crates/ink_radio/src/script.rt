@@ -122,8 +122,8 @@ pub fn read_script(
     requires short { length text.now ≤ TEXT_BYTES }
     requires tokens { AreTokens text.now tokens.now.list.items tokens.now.lines }
     requires at { at ≤ length tokens.now.list.items }
-    ensures within { IfOk result (λ events. length events ≤ SCRIPT_LINES) }
     ensures given { GivesJob (λ events. events) result (script_in (length (lines text.now)) (token_lines text.now (drop at tokens.now.list.items))) }
+    ensures within { IfOk result (λ events. length events ≤ SCRIPT_LINES) }
 {
     events(alloc, text, tokens.lines, tokens_from(tokens, at))
 }

@@ -30,7 +30,7 @@ pub struct RadioState {
 
 ghost use Rattle.std.specs.Prelude.{◌≡◌, ◌+◌, ◌<◌, ◌≤◌, min, length, count_by, slice_get, All, IfSome, OnSome, OnOk};
 ghost use Rattle.ink_radio.specs.Packets.{IsOutput};
-ghost use Rattle.ink_radio.specs.Radio.{quiet, next_output, after_send, at_base, at_node, after_save, after_event, is_data, record_of};
+ghost use Rattle.ink_radio.specs.Radio.{quiet, next_output, after_send, taken, at_base, at_node, after_save, after_event, is_data, record_of};
 ghost use Rattle.ink_radio.specs.kept.Counting.{has_data};
 ghost use Rattle.ink_radio.specs.kept.Reached.{IsReached};
 
@@ -92,13 +92,21 @@ impl RadioState {
         self.air.packet(number)
     }
 
+    // How many outputs the base has.
+    fn taken(&self) -> usize
+        requires { taken self.now ≤ OUTPUTS }
+        ensures { result ≡ taken self.now }
+    {
+        self.saved.len() + self.fresh.len()
+    }
+
     // A packet comes to the base, which takes the output that follows those that it has.
     fn come_to_base(&mut self, packet: Option<Packet>) -> Result<(), NoMemory>
-        requires { length self.old.saved + length self.old.fresh ≤ OUTPUTS }
+        requires { taken self.old ≤ OUTPUTS }
         ensures { OnOk result (self.new ≡ at_base self.old packet) }
     {
         if let Some(Packet::Data { number, output }) = packet {
-            if number as usize == self.saved.len() + self.fresh.len() {
+            if number as usize == self.taken() {
                 self.fresh.push(output)?;
             }
         }
@@ -117,10 +125,10 @@ impl RadioState {
 
     // The base saves what it has, and sends how much that is.
     fn save(&mut self, alloc: Global) -> Result<(), NoMemory>
-        requires { length self.old.saved + length self.old.fresh ≤ OUTPUTS }
+        requires { taken self.old ≤ OUTPUTS }
         ensures { OnOk result (self.new ≡ after_save self.old) }
     {
-        let count = (self.saved.len() + self.fresh.len()) as u32;
+        let count = self.taken() as u32;
         self.air.send(alloc, &Packet::Ack { count })?;
         let fresh = replace(&mut self.fresh, Items::new(alloc));
         self.saved.append(fresh)?;
