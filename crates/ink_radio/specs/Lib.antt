@@ -1,0 +1,5 @@
+pub mod Packets
+pub mod Script
+pub mod Radio
+pub mod Keeps
+pub mod kept
