@@ -7,4 +7,3 @@ pub mod Report
 pub mod Conditions
 pub mod Sweep
 pub mod kept
-pub mod Radio
