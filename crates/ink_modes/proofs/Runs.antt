@@ -12,6 +12,7 @@ use Rattle.kernel_core.proofs.Growth.{run_grows, run_few, run_legal, run_journal
 use Rattle.kernel_core.proofs.Scanned.{run_scanned}
 use Rattle.kernel_core.proofs.Paced.{run_paced}
 use Rattle.kernel_core.proofs.Settled.{run_settles}
+use Rattle.kernel_core.proofs.CostedRuns.{run_commits}
 
 module _ (job : JobParts) (first : List ℕ) (r : RunRecord) (is : IsJob job) (image : AreFirstWords job.program job.start first) (charges : r.charges ≡ (board_run job first).charges) where
   journal_same : journal_in r ≡ journal (board_run job first)
@@ -41,4 +42,5 @@ module _ (job : JobParts) (first : List ℕ) (r : RunRecord) (is : IsJob job) (i
     scanned = subst (λ (l : List ChargeRecord). ChargesAreScanned l) (sym charges) (run_scanned job first is);
     paced = subst (λ (l : List ChargeRecord). ChargesArePaced (setup_of job) l) (sym charges) (run_paced job first is image);
     settled = subst (λ (l : List ChargeRecord). ChargesSettle job.program l) (sym charges) (run_settles job first is image);
+    commits = run_commits job first is image;
   }

@@ -1,5 +1,5 @@
 -- Behind a pick the kernel's accesses count down to its commit.
-use Rattle.kernel_core.proofs.Common.{◌≡◌, ℕ, zero, suc, ◌+◌, ◌-◌, ◌<◌, cond, Bool, true, false, List, [], ◌∷◌, ◌++◌, length, refl, sym, ap, ◌∙◌, subst, arith, Actor, Memory, perform, answer, place_of, at_address, performed, performed_there, finds_there, is_valid, valid, below, memory_of, Option, Some, None, Model, Lasts, lasts_less, access, access_of-port, is_left, readings_of, SamePrivate, TaskMachine, Knows, KnowsAt, is_over, first_phase, Task, wants, takes, point_found, begin_scan, Setup, Board, Move, Cut, Turn, shape, sides, finds, kernel_access, kernel_turn, source_made, source_turn, clock_turn, row_of, turn, cut, moved_by, first_board, IsSetup, memory, state, KernelHolds, Holds, AreMoves, ticks, turns, IsInRange}
+use Rattle.kernel_core.proofs.Common.{◌≡◌, ℕ, zero, suc, ◌+◌, ◌-◌, ◌<◌, cond, Bool, true, false, List, [], ◌∷◌, ◌++◌, length, refl, sym, ap, ◌∙◌, subst, arith, Actor, Memory, perform, answer, place_of, at_address, performed, performed_there, finds_there, is_valid, valid, below, memory_of, Option, Some, None, Model, Lasts, lasts_less, access, access_of-port, is_left, readings_of, SamePrivate, TaskMachine, Knows, KnowsAt, is_over, first_phase, Task, wants, takes, point_found, begin_scan, Setup, Board, Move, Cut, Turn, shape, sides, finds, kernel_access, kernel_turn, source_made, source_turn, clock_turn, row_of, turn, cut, moved_by, first_board, IsSetup, memory, state, KernelHolds, Holds, IsActor, AreMoves, ticks, turns, IsInRange}
 use Rattle.ink_base.specs.declared.actor.Actor.TheVariants as actors
 use Rattle.ink_base.specs.declared.ids.TaskId.{TaskId}
 use Rattle.ink_layout.specs.declared.pick.Pick.{Pick}
@@ -14,7 +14,7 @@ use Rattle.task_run.proofs.Counting.{every_access_counts, every_count_outlasts, 
 use Rattle.task_run.proofs.LastAccesses.{every_last_commits, every_commit_is_last}
 use Rattle.task_run.proofs.Remains.{every_pick_costs, is_over-false}
 use Rattle.task_run.proofs.SamePicks.{take_pick}
-use Rattle.kernel_core.specs.Costed.{kernel_turns, HasNoCut, next_point, IsServed, EveryPickCommits}
+use Rattle.kernel_core.specs.Costed.{kernel_turns, HasNoCut, HasPicked, next_point, IsServed, PickCosts, CountsDown, PicksCommit, EveryPickCommits}
 use Rattle.kernel_core.proofs.Cuts.{cut_goes}
 use Rattle.kernel_core.proofs.Firsts.{first_holds}
 use Rattle.kernel_core.proofs.KernelPlaces.{kernel_on}
@@ -124,6 +124,7 @@ served_is s b pick n h =
     record {
       machine = r;
       serves = h.is;
+      pick_is = h.pick_is;
       remains = h.remains;
       commits = (
         λ is. every_commit_is_last s.program (memory s b) r n h.remains (sym means ∙ (is ∙ sym own)),
@@ -131,27 +132,34 @@ served_is s b pick n h =
       );
     }
 
--- the moves behind a pick count down
-counts_down : (s : Setup) (count : ℕ) (b : Board) (more : List Move) (pick : Pick) (n : ℕ) → IsSetup s → Ready s count b more → HasNoCut more → Serves s b pick n → kernel_turns more < n →
-    IsServed s (moved_by s b more) pick (n - kernel_turns more)
-counts_down s count b [] pick n g k uncut h lt = let all : n ≡ n - 0 = omega arith in subst (λ z. IsServed s b pick z) all (served_is s b pick n h)
-counts_down s count b (Cut off ∷ more) pick n g k uncut h lt = absurd uncut
-counts_down s count b (Turn actors.Kernel ∷ more) pick zero g k uncut h lt = absurd (omega arith)
-counts_down s count b (Turn actors.Kernel ∷ more) pick (suc zero) g k uncut h lt = absurd (omega arith)
-counts_down s count b (Turn actors.Kernel ∷ more) pick (suc (suc n)) g k uncut h lt =
-    let room : Lasts 0 (state s b) = lasts_less (turns (Turn actors.Kernel ∷ more)) 0 (state s b) (omega arith) k.range.counts in
-    let less : suc n - kernel_turns more ≡ suc (suc n) - suc (kernel_turns more) = omega arith in
-    subst (λ z. IsServed s (moved_by s (kernel_turn s b) more) pick z) less
-    (counts_down s count (kernel_turn s b) more pick (suc n) g (ready_next s count b actors.Kernel more g k) uncut (serves_next s count b pick n g k.holds room h) (omega arith))
-counts_down s count b (Turn (actors.Source i) ∷ more) pick n g k uncut h lt =
-    counts_down s count (source_turn s b i.0) more pick n g (ready_next s count b (actors.Source i) more g k) uncut
-    (serves_beside s b (source_turn s b i.0) pick n (same_kernel (is_left (length (readings_of s.readings i.0)) (row_of b i.0))) (source_same s count b g k.holds i.0 k.listed.1) h) lt
+-- a turn of another actor leaves the service
+serves_source : (s : Setup) (count : ℕ) (b : Board) (i : ℕ) (pick : Pick) (n : ℕ) → IsSetup s → Holds s count b → i < length s.program.sources → Serves s b pick n → Serves s (source_turn s b i) pick n
+serves_source s count b i pick n g holds known h =
+    serves_beside s b (source_turn s b i) pick n (same_kernel (is_left (length (readings_of s.readings i)) (row_of b i))) (source_same s count b g holds i known) h
   where
-    same_kernel : (c : Bool) → (cond c (source_made s b i.0) b).kernel ≡ b.kernel
+    same_kernel : (c : Bool) → (cond c (source_made s b i) b).kernel ≡ b.kernel
     same_kernel true = refl
     same_kernel false = refl
-counts_down s count b (Turn actors.Clock ∷ more) pick n g k uncut h lt =
-    counts_down s count (clock_turn s b) more pick n g (ready_next s count b actors.Clock more g k) uncut (serves_beside s b (clock_turn s b) pick n refl (clock_same s count b g k.holds) h) lt
+
+serves_clock : (s : Setup) (count : ℕ) (b : Board) (pick : Pick) (n : ℕ) → IsSetup s → Holds s count b → Serves s b pick n → Serves s (clock_turn s b) pick n
+serves_clock s count b pick n g holds h = serves_beside s b (clock_turn s b) pick n refl (clock_same s count b g holds) h
+
+-- the moves behind a pick count down
+counts_down : (s : Setup) (count : ℕ) (b : Board) (more rest : List Move) (pick : Pick) (n : ℕ) → IsSetup s → Ready s count b (more ++ rest) → HasNoCut more → Serves s b pick n → kernel_turns more < n →
+    IsServed s (moved_by s b more) pick (n - kernel_turns more)
+counts_down s count b [] rest pick n g k uncut h lt = let all : n ≡ n - 0 = omega arith in subst (λ z. IsServed s b pick z) all (served_is s b pick n h)
+counts_down s count b (Cut off ∷ more) rest pick n g k uncut h lt = absurd uncut
+counts_down s count b (Turn actors.Kernel ∷ more) rest pick zero g k uncut h lt = absurd (omega arith)
+counts_down s count b (Turn actors.Kernel ∷ more) rest pick (suc zero) g k uncut h lt = absurd (omega arith)
+counts_down s count b (Turn actors.Kernel ∷ more) rest pick (suc (suc n)) g k uncut h lt =
+    let room : Lasts 0 (state s b) = lasts_less (turns (Turn actors.Kernel ∷ (more ++ rest))) 0 (state s b) (omega arith) k.range.counts in
+    let less : suc n - kernel_turns more ≡ suc (suc n) - suc (kernel_turns more) = omega arith in
+    subst (λ z. IsServed s (moved_by s (kernel_turn s b) more) pick z) less
+    (counts_down s count (kernel_turn s b) more rest pick (suc n) g (ready_next s count b actors.Kernel (more ++ rest) g k) uncut (serves_next s count b pick n g k.holds room h) (omega arith))
+counts_down s count b (Turn (actors.Source i) ∷ more) rest pick n g k uncut h lt =
+    counts_down s count (source_turn s b i.0) more rest pick n g (ready_next s count b (actors.Source i) (more ++ rest) g k) uncut (serves_source s count b i.0 pick n g k.holds k.listed.1 h) lt
+counts_down s count b (Turn actors.Clock ∷ more) rest pick n g k uncut h lt =
+    counts_down s count (clock_turn s b) more rest pick n g (ready_next s count b actors.Clock (more ++ rest) g k) uncut (serves_clock s count b pick n g k.holds h) lt
 
 -- what the registers know where a pick begins
 picked_at : (s : Setup) (words : Memory) (m : Model) (pick : Pick) (stamp : ℕ) → Knows s.program words m (begin pick stamp) → IsPicked s.program words m pick × (stamp ≡ m.commits)
@@ -161,19 +169,44 @@ picked_at s words m pick stamp knows = by_running pick.running knows
     by_running None h = (h.picked, h.stamp)
     by_running (Some task) h = (h.picked, h.stamp)
 
-pub every_pick_commits : EveryPickCommits
-every_pick_commits s words charges moves more pick g stands are range uncut picked lt =
-    let first : Board = first_board s words charges in
-    let k : Ready s charges (moved_by s first moves) more =
-    ready_behind s charges first moves more g (record { holds = first_holds s words charges g stands; listed = are; range = range }) in
-    let b : Board = moved_by s (first_board s words charges) moves in
-    let knows = subst (λ kernel. KernelHolds s.program (memory s b) (state s b) kernel) picked.1 k.holds.registers in
+-- a service that begins
+serves_first : (s : Setup) (count : ℕ) (b : Board) (pick : Pick) → IsSetup s → Holds s count b → HasPicked b pick → Serves s b pick (cost s.program (state s b) pick.thread.0)
+serves_first s count b pick g holds picked =
+    let knows = subst (λ kernel. KernelHolds s.program (memory s b) (state s b) kernel) picked.1 holds.registers in
     let at = picked_at s (memory s b) (state s b) pick picked.0 knows.0 in
-    let n : ℕ = cost s.program (state s b) pick.thread.0 in
-    counts_down s charges (moved_by s first moves) more pick n g k uncut
-    (record {
+    record {
       machine = begin pick picked.0;
       is = picked.1;
       pick_is = refl;
-      remains = every_pick_costs s.program s.readings (memory s b) (state s b) pick picked.0 (background_of s charges b g k.holds) at.0 at.1;
-    }) lt
+      remains = every_pick_costs s.program s.readings (memory s b) (state s b) pick picked.0 (background_of s count b g holds) at.0 at.1;
+    }
+
+pub pick_costs : (s : Setup) (count : ℕ) (b : Board) → IsSetup s → Holds s count b → PickCosts s b
+pick_costs s count b g holds pick picked = served_is s b pick (cost s.program (state s b) pick.thread.0) (serves_first s count b pick g holds picked)
+
+-- the service that is said to be served
+serves_said : (s : Setup) (b : Board) (pick : Pick) (n : ℕ) → IsServed s b pick n → Serves s b pick n
+serves_said s b pick n h = record { machine = h.machine; is = h.serves; pick_is = h.pick_is; remains = h.remains }
+
+-- each turn counts
+pub turn_counts : (s : Setup) (count : ℕ) (b : Board) (actor : Actor) → IsSetup s → Holds s count b → Lasts 0 (state s b) → IsActor s actor → CountsDown s b actor (turn s b actor)
+turn_counts s count b actors.Kernel g holds room on = λ pick rest served more. by_rest pick rest served more
+  where
+    by_rest : (pick : Pick) (rest : ℕ) → IsServed s b pick rest → 1 < rest → IsServed s (kernel_turn s b) pick (rest - 1)
+    by_rest pick zero served more = absurd (omega arith)
+    by_rest pick (suc zero) served more = absurd (omega arith)
+    by_rest pick (suc (suc n)) served more =
+        let less : suc n ≡ suc (suc n) - 1 = omega arith in
+        subst (λ z. IsServed s (kernel_turn s b) pick z) less (served_is s (kernel_turn s b) pick (suc n) (serves_next s count b pick n g holds room (serves_said s b pick (suc (suc n)) served)))
+turn_counts s count b (actors.Source i) g holds room on = λ pick rest served. served_is s (source_turn s b i.0) pick rest (serves_source s count b i.0 pick rest g holds on (serves_said s b pick rest served))
+turn_counts s count b actors.Clock g holds room on = λ pick rest served. served_is s (clock_turn s b) pick rest (serves_clock s count b pick rest g holds (serves_said s b pick rest served))
+
+pub moves_commit : (s : Setup) (count : ℕ) (first : Board) (listed : List Move) → IsSetup s → Ready s count first listed → PicksCommit s first listed
+moves_commit s count first listed g ready moves more rest pick split uncut picked lt =
+    let k = ready_behind s count first moves (more ++ rest) g (subst (λ (l : List Move). Ready s count first l) split ready) in
+    let b : Board = moved_by s first moves in
+    counts_down s count b more rest pick (cost s.program (state s b) pick.thread.0) g k uncut (serves_first s count b pick g k.holds picked) lt
+
+pub every_pick_commits : EveryPickCommits
+every_pick_commits s words charges moves g stands are range =
+    moves_commit s charges (first_board s words charges) moves g (record { holds = first_holds s words charges g stands; listed = are; range = range })

@@ -1,5 +1,5 @@
 -- The words with which a job's run begins stand for the state at which it begins.
-use Rattle.kernel_core.proofs.Common.{◌≡◌, inl, inr, ℕ, ◌+◌, ◌^◌, ◌<◌, ◌≤◌, List, length, Option, Some, None, refl, sym, ap, subst, arith, cases_lt, get_or_past, ThreadId, ThreadDef, Slot, Tail, Ack, Clock, Src, memory_of, Program, IsAccepted, thread_def, no_thread_def, source_thread, words_of, first_row, Queue, open_queue, IsStart, queue_of, source_in, thread_of, source_of, no_thread, no_source, Readings, AreShort, open_starts, first_model, AreFirstWords, Setup, shape, StandsFirst}
+use Rattle.kernel_core.proofs.Common.{◌≡◌, inl, inr, ℕ, ◌^◌, ◌<◌, ◌≤◌, List, length, Option, Some, None, refl, sym, ap, subst, arith, cases_lt, get_or_past, ThreadId, ThreadDef, Slot, Tail, Ack, Clock, Src, memory_of, Program, IsAccepted, thread_def, no_thread_def, source_thread, words_of, Queue, open_queue, queue_of, source_in, thread_of, no_thread, no_source, Readings, AreShort, open_starts, first_model, AreFirstWords, Setup, shape, StandsFirst}
 use Rattle.std.specs.Option.{ForSome}
 use Rattle.ink_base.specs.declared.limits.TheConstants as limits
 use Rattle.prog_check.specs.Lookup as lookup
@@ -14,7 +14,7 @@ use Rattle.never_cut.proofs.ImagesStand.{every_image}
 use Rattle.job_parts.specs.Job as jobs
 use Rattle.job_parts.specs.declared.start.Start.{Start}
 use Rattle.kernel_core.specs.Board.{sides}
-use Rattle.kernel_core.specs.Views.{seen, sides_of}
+use Rattle.kernel_core.specs.Views.{sides_of}
 use Rattle.kernel_core.proofs.Firsts.{first_stands, past_tail, past_ack, past_src}
 
 module _ (s : Setup) (words : List ℕ) (accepted : IsAccepted s.program) (short : AreShort s.readings) (h : IsStanding s.program s.readings (memory_of (shape s) words) s.first) where

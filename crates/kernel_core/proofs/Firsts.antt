@@ -1,5 +1,5 @@
 -- The first board holds.
-use Rattle.kernel_core.proofs.Common.{◌≡◌, inl, inr, ℕ, zero, suc, ◌+◌, ◌*◌, ◌≤◌, ◌&&◌, Bool, true, false, List, [], ◌∷◌, length, map, take, replicate, get_or, refl, sym, ap, subst, arith, nat_lt, le-ltb, cases_lt, length-map, length-replicate, get_or-replicate, get_or_past, ThreadId, Place, Tail, Slot, Ack, Clock, Src, memory_of, region, offset, has_indices, Program, ThreadDef, IsAccepted, thread_def, no_thread_def, shape_of, thread_shape, task_words, pipe_words, queue_words, in_rest, IsFirstImage, first_row, open_queue, State, IsFirst, IsStart, start_first, kept_start, queue_of, source_in, no_thread, no_source, open_model, open_thread, open_source, Model, StandsPrivate, AreShort, lasts_less, open_lasts, open_starts, sound_after, boot_begins, ChargeRecord, not_begun, charge_of, Setup, Board, shape, sides, row_of, journal, moved_by, first_board, seen, IsSetup, StandsFirst, memory, HasSize, Holds, ticks, turns, IsInRange, EveryPrefixStands, ImagePrefixesStand, OneIsFinished}
+use Rattle.kernel_core.proofs.Common.{◌≡◌, inl, inr, ℕ, zero, suc, ◌+◌, ◌*◌, ◌≤◌, ◌&&◌, Bool, true, false, List, [], ◌∷◌, length, map, take, replicate, get_or, refl, sym, ap, subst, arith, nat_lt, le-ltb, cases_lt, length-map, length-replicate, get_or-replicate, get_or_past, Place, Tail, Slot, Ack, Clock, Src, memory_of, region, offset, has_indices, Program, ThreadDef, IsAccepted, thread_def, no_thread_def, shape_of, thread_shape, task_words, pipe_words, queue_words, in_rest, IsFirstImage, first_row, open_queue, State, IsFirst, IsStart, start_first, kept_start, queue_of, source_in, no_thread, open_model, open_thread, Model, StandsPrivate, AreShort, lasts_less, open_lasts, open_starts, sound_after, boot_begins, ChargeRecord, not_begun, charge_of, Setup, Board, shape, sides, row_of, journal, moved_by, first_board, seen, IsSetup, StandsFirst, memory, HasSize, Holds, ticks, turns, IsInRange, EveryPrefixStands, ImagePrefixesStand, OneIsFinished}
 use Rattle.never_cut.proofs.SoundStates.{open_source_at}
 use Rattle.never_cut.proofs.FirstImages.{false_second, nothing_at, first_private}
 use Rattle.never_cut.specs.Start.{CanStart}

@@ -8,7 +8,7 @@ use Rattle.kernel_core.proofs.Cuts.{cut_journal}
 use Rattle.kernel_core.proofs.Runs.{turn_begun, moves_hold, moves_taken, ticks_taken, turns_taken}
 use Rattle.kernel_core.proofs.Firsts.{first_holds}
 use Rattle.kernel_core.proofs.CoreRuns.{moved_append}
-use Rattle.kernel_core.proofs.JobMoves.{job_moves, job_ticks, job_range, job_setup, job_first, job_prefixes_stand, charges_turns}
+use Rattle.kernel_core.proofs.JobMoves.{job_moves, job_range, job_setup, job_first, job_prefixes_stand, charges_turns}
 
 -- the entry that a move notes, or none
 abbrev Notes : Board → Board → Type 0

@@ -66,7 +66,7 @@ items_turns (item ∷ items) =
     ∙ (ap (λ n. item.count + n) (items_turns items) ∙ sym (sum_by-cons (λ (x : Item). x.count) item items)))
 
 -- each charge begins after less than 2 ^ 31 ticks, and each turn adds one at most
-charges_ticks : (sources : ℕ) (charges : List Charge) → All (IsRightCharge sources) charges → ticks (moves charges) ≤ length charges * 2 ^ 31 + charge_turns charges
+pub charges_ticks : (sources : ℕ) (charges : List Charge) → All (IsRightCharge sources) charges → ticks (moves charges) ≤ length charges * 2 ^ 31 + charge_turns charges
 charges_ticks sources [] all = omega arith
 charges_ticks sources (charge ∷ charges) all =
     let right = All-head (IsRightCharge sources) charge charges all in

@@ -41,4 +41,5 @@ pub mod KernelPaces
 pub mod PacedCharges
 pub mod Paced
 pub mod Costed
+pub mod CostedRuns
 pub mod Resting

@@ -1,5 +1,5 @@
 -- What the accesses of sources and clock leave of what the kernel knows.
-use Rattle.kernel_core.proofs.Common.{◌≡◌, inl, inr, ℕ, ◌+◌, ◌<◌, ◌≤◌, ◌==◌, cond, List, [], ◌∷◌, ◌++◌, length, get_or, set, Some, refl, sym, ap, ◌∙◌, subst, arith, eq-eqb, ne_eqb, append-nil, length-set, cases_eq, Event, Place, Tail, Slot, Src, Memory, Exchange, Store, perform, Program, source_thread, Stage, LoadSrc, LoadSlots, LoadAck, LoadTail, LoadSlot, Publish, MoveTail, HelpTail, StoreSkip, StoreAccepted, Point, src_word, empty_word, event_word, access_at, event_of, slot_place, Adds, MayAdd, Model, ThreadModel, thread_of, source_of, no_thread, with_thread, effect, pushed, next_event, with_accepted, with_refused, with_skipped, moved, MayNote, SamePrivate, IsPrivate, Follows, without_held, same_follows, push_follows, Kernel, Boot, Scan, Task, Setup, sides, entry_of_source, sides_of, KernelHolds}
+use Rattle.kernel_core.proofs.Common.{◌≡◌, ℕ, ◌+◌, ◌<◌, length, Some, refl, sym, ◌∙◌, subst, arith, Place, Tail, Slot, Src, Memory, Exchange, Store, perform, Program, source_thread, Stage, LoadSrc, LoadSlots, LoadAck, LoadTail, LoadSlot, Publish, MoveTail, HelpTail, StoreSkip, StoreAccepted, Point, src_word, empty_word, event_word, access_at, event_of, slot_place, Adds, MayAdd, Model, thread_of, source_of, effect, pushed, next_event, with_accepted, with_refused, with_skipped, moved, MayNote, SamePrivate, IsPrivate, Follows, same_follows, push_follows, Kernel, Boot, Scan, Task, Setup, sides, entry_of_source, sides_of, KernelHolds}
 use Rattle.never_cut.specs.State.{with_source}
 use Rattle.ink_base.specs.declared.entry.Entry.TheVariants as entries
 use Rattle.push_core.specs.declared.point.Point.TheVariants as points

@@ -1,5 +1,5 @@
 -- The run as the sources see it, and what their side keeps tells of the queues.
-use Rattle.kernel_core.proofs.Common.{◌≡◌, inl, inr, ℕ, ◌<◌, List, length, get_or, set, ap, arith, get_or-set_same, get_or-set_other, cases_lt, get_or_past, Memory, Clock, Becomes, ThreadDef, Program, IsAccepted, thread_def, no_thread_def, source_thread, Row, IsWithin, Kept, Model, ThreadModel, SourceModel, queue_of, source_in, no_thread, no_source, IsSound, StandsForKernel, AreShort, published_bound, Setup, sides, seen, IsSetup}
+use Rattle.kernel_core.proofs.Common.{◌≡◌, inl, inr, ℕ, ◌<◌, List, length, get_or, set, ap, arith, get_or-set_same, get_or-set_other, cases_lt, get_or_past, Memory, Clock, Becomes, ThreadDef, IsAccepted, thread_def, no_thread_def, source_thread, Row, IsWithin, Kept, Model, ThreadModel, SourceModel, queue_of, source_in, no_thread, no_source, IsSound, StandsForKernel, AreShort, published_bound, Setup, sides, seen, IsSetup}
 
 -- a run within its limits is one within those of the sources
 pub within_limits : (s : Setup) → IsAccepted s.program → AreShort s.readings → IsWithin (sides s)

@@ -6,6 +6,8 @@ ghost use Rattle.kernel_core.specs.Moves.{IsActor};
 ghost use Rattle.kernel_core.specs.Made.{made_by, accesses_in};
 ghost use Rattle.kernel_core.specs.Settling.{RefusalsKeep, SkipsStore};
 ghost use Rattle.kernel_core.specs.RunRecords.{RecordStands};
+ghost use Rattle.kernel_core.specs.Costed.{PickCosts, CountsDown, PicksCommit};
+ghost use Rattle.kernel_core.specs.Listed.{moves};
 ghost use Rattle.kernel_core.specs.Settled.{ChargesSettle};
 ghost use Rattle.job_parts.specs.Job.{AreFirstWords, IsJob};
 ghost use Rattle.kernel_core.specs.kept.Starts.{AreFirstPushers, AreFirstRecords};
@@ -183,10 +185,15 @@ impl Core {
         ensures room { self.old.room ≡ self.new.room + accesses_in result }
         ensures settled { ChargesSettle self.new.job.program self.new.board.charges }
 
+        // A scan that has ended with a pick is followed by as many accesses of the kernel as its service costs, the commit being the last.
+        ensures picked { PickCosts (setup_of self.new.job) self.new.board }
+        ensures counts { CountsDown (setup_of self.old.job) self.old.board actor self.new.board }
+
         // What the entry tells of the words: a push that is refused leaves them all, its skip changes SRC of its source alone.
         ensures refused { RefusalsKeep result self.old.board.words self.new.board.words }
         ensures skipped { SkipsStore (setup_of self.old.job) result self.old.board.words self.new.board.words }
     {
+        self.counts_down(actor);
         let made = self.turn(actor);
         self.stands();
         made
@@ -224,10 +231,28 @@ impl Core {
         self.begun += 1;
     }
 
-    // The journal is legal, the words stand for the never-cut kernel after it, and each charge has settled enough.
+    // The journal is legal, the words stand for the never-cut kernel after it, each charge has settled enough, and a pick costs what it means.
     pub(crate) fn stands(&self)
         ensures stands { BoardStands (setup_of self.now.job) self.now.board }
         ensures settled { ChargesSettle self.now.job.program self.now.board.charges }
+        ensures picked { PickCosts (setup_of self.now.job) self.now.board }
+    {
+        let _begun = self.begun;
+    }
+
+    // What the next turn of an actor leaves of a service.
+    fn counts_down(&self, actor: Actor)
+        requires known { IsActor (setup_of self.now.job) actor }
+        requires room { 0 < self.now.room }
+        ensures { CountsDown (setup_of self.now.job) self.now.board actor (turn (setup_of self.now.job) self.now.board actor) }
+    {
+        let _room = self.room;
+    }
+
+    // When each pick commits in the run that the job lists.
+    pub(crate) fn commits(&self)
+        requires { self.now.board.begun ≡ 0 }
+        ensures { PicksCommit (setup_of self.now.job) self.now.board (moves self.now.job.charges) }
     {
         let _begun = self.begun;
     }

@@ -5,6 +5,7 @@ ghost use Rattle.kernel_core.specs.Board.{moved_by};
 ghost use Rattle.kernel_core.specs.Stands.{BoardStands};
 ghost use Rattle.kernel_core.specs.Listed.{moves, moves_of, turns_of};
 ghost use Rattle.kernel_core.specs.Moves.{IsActor};
+ghost use Rattle.kernel_core.specs.Costed.{PicksCommit};
 ghost use Rattle.kernel_core.specs.Settled.{ChargesSettle};
 ghost use Rattle.kernel_core.specs.Core.{setup_of, charge_def, no_item};
 
@@ -13,14 +14,17 @@ use job_parts::Item;
 
 impl Core {
     /// The whole run of the job: for each charge in order a cut with its dark ticks, and then the turns of its items in order. In each
-    /// charge every source settles as many readings as its accesses are enough for.
+    /// charge every source settles as many readings as its accesses are enough for, and behind a pick the commit comes with the access that
+    /// its service costs.
     pub fn run(&mut self)
         requires { self.old.board.begun ≡ 0 }
         ensures board { self.new.board ≡ moved_by (setup_of self.old.job) self.old.board (moves self.old.job.charges) }
         ensures stands { BoardStands (setup_of self.new.job) self.new.board }
         ensures job { self.new.job ≡ self.old.job }
         ensures settled { ChargesSettle self.new.job.program self.new.board.charges }
+        ensures commits { PicksCommit (setup_of self.old.job) self.old.board (moves self.old.job.charges) }
     {
+        self.commits();
         for n in 0..self.listed().len() {
             self.run_charge(n);
         }

@@ -1,4 +1,4 @@
-use Rattle.kernel_core.proofs.Common.{◌≡◌, ◌+◌, ◌≤◌, get_or, refl, sym, ap, ◌∙◌, subst, arith, sum_by_more, sum_by_more_le, Charge, Item, item_turns, no_item}
+use Rattle.kernel_core.proofs.Common.{◌+◌, ◌≤◌, get_or, refl, sym, ap, ◌∙◌, subst, arith, sum_by_more, sum_by_more_le, Charge, Item, item_turns, no_item}
 use Rattle.ink_base.specs.declared.limits.TheConstants as limits
 use Rattle.kernel_core.proofs.CoreJobs.{turns_small, charge_is, taken_all}
 use Rattle.kernel_core.proofs.start.turns_in.Goals as goal

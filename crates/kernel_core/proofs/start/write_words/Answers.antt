@@ -1,6 +1,5 @@
 -- One word more is that of the list.
-use Rattle.kernel_core.proofs.Common.{◌≡◌, inl, inr, ℕ, ◌+◌, ◌<◌, List, length, get_or, set, sym, ap, ◌∙◌, subst, arith, cases_eq, length-set, get_or-set_same, get_or-set_other}
-use Rattle.std.proofs.lemmas.Grind.{same_number_lists}
+use Rattle.kernel_core.proofs.Common.{◌≡◌, inl, inr, ℕ, ◌+◌, ◌<◌, List, length, get_or, set, sym, ◌∙◌, subst, arith, cases_eq, length-set, get_or-set_same, get_or-set_other}
 use Rattle.kernel_core.proofs.start.write_words.Goals as goal
 
 -- a list that is the same as another up to a place is so behind it where that place gets the other's word

@@ -1,4 +1,4 @@
-use Rattle.kernel_core.proofs.Common.{◌+◌, ◌<◌, ◌≤◌, List, length, get_or, sym, ap, ◌∙◌, subst, arith, begun, Recorded, KeepsRoom, cut, Charge, item_turns, View, setup_of, no_charge}
+use Rattle.kernel_core.proofs.Common.{◌<◌, List, length, get_or, sym, ap, ◌∙◌, subst, arith, begun, Recorded, KeepsRoom, cut, Charge, item_turns, View, setup_of, no_charge}
 use Rattle.kernel_core.proofs.CoreSteps.{clock_within}
 use Rattle.kernel_core.proofs.CoreCuts.{cut_fits, at_next, next_spare, board_of, core_of}
 use Rattle.kernel_core.proofs.board.Core.begin_charge.Goals as goal

@@ -1,4 +1,4 @@
-use Rattle.kernel_core.proofs.Common.{◌+◌, ◌<◌, ◌≤◌, sym, ap, ◌∙◌, subst, with_tick, Recorded, KeepsRoom, clock_turn, clock_made, View, setup_of}
+use Rattle.kernel_core.proofs.Common.{◌<◌, sym, ap, ◌∙◌, subst, with_tick, Recorded, KeepsRoom, clock_turn, clock_made, View, setup_of}
 use Rattle.kernel_core.proofs.CoreSteps.{clock_within, clock_fits, clock_turn_is, clock_made_is, clock_turn_core, at_hand, has_spare, tick_counts}
 use Rattle.kernel_core.proofs.board.Core.clock_turn.Goals as goal
 

@@ -1,4 +1,4 @@
-use Rattle.kernel_core.proofs.Common.{◌≡◌, ◌+◌, ◌<◌, ◌≤◌, sym, ap, ◌∙◌, subst, entry_of_point, with_kernel, Recorded, KeepsRoom, kernel_turn, kernel_made, View, setup_of}
+use Rattle.kernel_core.proofs.Common.{◌<◌, sym, ap, ◌∙◌, subst, entry_of_point, with_kernel, Recorded, KeepsRoom, kernel_turn, kernel_made, View, setup_of}
 use Rattle.kernel_core.proofs.CoreSteps.{can_want, can_take, within, adds_nothing, kernel_turn_is, kernel_made_is, kernel_turn_core, at_hand, has_spare, kernel_counts}
 use Rattle.kernel_core.proofs.board.Core.kernel_turn.Goals as goal
 

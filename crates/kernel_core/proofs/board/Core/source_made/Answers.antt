@@ -1,4 +1,4 @@
-use Rattle.kernel_core.proofs.Common.{◌≡◌, ℕ, ◌+◌, ◌<◌, ◌≤◌, List, length, sym, ap, ◌∙◌, subst, arith, IsFew, IsLeft, IsRowFor, IsAnswer, take_of, readings_of, with_source, Recorded, KeepsRoom, row_of, source_access, source_made, access_made, View, setup_of}
+use Rattle.kernel_core.proofs.Common.{◌≡◌, ℕ, ◌<◌, List, length, sym, ap, ◌∙◌, subst, arith, IsFew, IsLeft, IsRowFor, IsAnswer, take_of, readings_of, with_source, Recorded, KeepsRoom, row_of, source_access, source_made, access_made, View, setup_of}
 use Rattle.kernel_core.proofs.CoreSteps.{at_hand, has_spare, source_counts, source_known}
 use Rattle.kernel_core.proofs.CoreSources.{few, fits, left_in, source_within, source_adds_nothing, answer_in_range, source_made_is, access_made_is, source_made_core}
 use Rattle.kernel_core.proofs.board.Core.source_made.Goals as goal
