@@ -1,8 +1,8 @@
 -- The text of an image says its words when it is read again.
-use Rattle.ink_image.proofs.Common.{◌≡◌, ℕ, zero, suc, ◌+◌, ◌*◌, ◌/◌, ◌%◌, ◌^◌, ◌<◌, ◌≤◌, ◌&&◌, eqb, Bool, true, false, List, [], ◌∷◌, ◌++◌, length, map, get_or, Some, Ok, refl, sym, ap, subst, ◌∙◌, append_assoc, length-append, arith, add-one, codes, fold, eqb-true, eq-eqb, ne_eqb, append-nil, list_all, flat_map, AllByRecursion, pow-succ', Word, Line, lines, lines_of, numbered, is_header, digit_byte, word_text, next_text, image_text, is_digit, digit_value, value, said, line_entries, section_entries, onto, with_said, read, Says}
+use Rattle.ink_image.proofs.Common.{◌≡◌, ℕ, zero, suc, ◌+◌, ◌*◌, ◌/◌, ◌%◌, ◌^◌, ◌<◌, eqb, Bool, true, false, List, [], ◌∷◌, ◌++◌, length, map, get_or, Some, Ok, refl, sym, ap, subst, ◌∙◌, append_assoc, length-append, arith, codes, fold, eq-eqb, ne_eqb, append-nil, list_all, flat_map, AllByRecursion, pow-succ', Word, Line, lines_of, is_header, digit_byte, word_text, next_text, image_text, is_digit, digit_value, value, said, line_entries, section_entries, onto, with_said, read, Says}
 use Rattle.ink_image.specs.Text.{digits, rows}
 use Rattle.std.proofs.lemmas.Bool.{and_from, and_parts}
-use Rattle.program_text.proofs.Rendering.{goes_on, is_word, are_words, behind, joined, line_text, text_of, with_numbers, lines_again}
+use Rattle.program_text.proofs.Rendering.{goes_on, is_word, are_words, behind, line_text, text_of, with_numbers, lines_again}
 use Rattle.ink_image.specs.Text as text
 use Rattle.ink_image.specs.Reading as reading
 use Rattle.ink_image.proofs.Sections.{read_nil, read_cons, read_append, section_line}

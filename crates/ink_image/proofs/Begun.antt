@@ -1,5 +1,5 @@
 -- A job that begins at a start that is ready is a job.
-use Rattle.ink_image.proofs.Common.{◌≡◌, ℕ, ◌+◌, ◌<◌, ◌≤◌, ◌^◌, List, [], ◌++◌, length, get_or, replicate, Some, refl, sym, ap, ◌∙◌, subst, inl, inr, arith, length-append, Program, SourceModel, Start, Charge, JobParts, IsJob, behind_settled, listed_of, job_from, IsReady, words_in}
+use Rattle.ink_image.proofs.Common.{◌≡◌, ℕ, ◌+◌, ◌<◌, ◌≤◌, ◌^◌, List, [], ◌++◌, length, get_or, replicate, Some, sym, ap, ◌∙◌, subst, inl, inr, arith, length-append, Program, Start, Charge, JobParts, IsJob, behind_settled, listed_of, job_from, IsReady, words_in}
 use Rattle.std.specs.List.{All}
 use Rattle.std.proofs.lemmas.List.{get_or-map, length-replicate}
 use Rattle.std.proofs.lemmas.List.Elements.{All-append, All-replicate}
@@ -8,7 +8,7 @@ use Rattle.ink_base.specs.declared.limits.TheConstants as limits
 use Rattle.push_core.specs.Queue.{Source}
 use Rattle.never_cut.specs.State.{source_of, no_source}
 use Rattle.never_cut.specs.ReadOff.{told_source}
-use Rattle.never_cut.specs.Worn.{IsWorn, ManyReadings}
+use Rattle.never_cut.specs.Worn.{ManyReadings}
 use Rattle.job_parts.specs.Job.{AreReadings, IsStart}
 use Rattle.ink_image.proofs.Behind.{length-behind, behind_at}
 

@@ -10,3 +10,8 @@ pub mod PlainTexts
 pub mod Holding
 pub mod Once
 pub mod Forms
+pub mod Places
+pub mod Within
+pub mod Fronts
+pub mod Telling
+pub mod Nothing

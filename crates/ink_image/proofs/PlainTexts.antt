@@ -1,5 +1,5 @@
 -- A text without an image has the job that ends with its charges.
-use Rattle.ink_image.proofs.Common.{◌≡◌, ℕ, Bool, true, false, List, [], ◌∷◌, length, None, Result, Ok, Err, refl, sym, ap, ◌∙◌, subst, inl, inr, codes, AllByRecursion, Word, Line, lines, lines_of, JobParts}
+use Rattle.ink_image.proofs.Common.{◌≡◌, ℕ, false, List, [], ◌∷◌, length, None, Result, Ok, Err, refl, sym, ap, ◌∙◌, subst, inl, inr, codes, AllByRecursion, Word, Line, lines, lines_of, JobParts}
 use Rattle.std.specs.Prelude.{◌↔◌}
 use Rattle.std.specs.Str.{bytes_eq}
 use Rattle.std.proofs.lemmas.Bool.{cases_Bool}
@@ -77,20 +77,20 @@ power_left count sources ls x h =
     subst (λ (y : Charges × List Line). y.1 ≡ []) same (end_left count (length read.0.0.list) read.0.1 end.0 end.1)
 
 -- the parts of a job, from its charges on
-with_charges : (count : ℕ) → Tails → Program → List (List ℕ) × List Line → Result (Parts × List Line) JobFault
+unfoldable pub with_charges : (count : ℕ) → Tails → Program → List (List ℕ) × List Line → Result (Parts × List Line) JobFault
 with_charges count tails program s =
     power_in count tails (length program.sources) s.1 >> (λ x.
     Ok (record { job = record { program = program; readings = s.0; charges = x.0.list; start = None }; charge_lines = x.0.lines }, x.1))
 
 -- from its readings on
-with_readings : (count : ℕ) → Tails → List Line → Program → Result (Parts × List Line) JobFault
+unfoldable pub with_readings : (count : ℕ) → Tails → List Line → Program → Result (Parts × List Line) JobFault
 with_readings count tails ls program = sensors_in count (length program.sources) ls >> with_charges count tails program
 
 -- and from its program on
-with_program : (count : ℕ) → Tails → Program × Lines × List Line → Result (Parts × List Line) JobFault
+unfoldable pub with_program : (count : ℕ) → Tails → Program × Lines × List Line → Result (Parts × List Line) JobFault
 with_program count tails p = checked p.0 p.1 >> with_readings count tails p.2
 
-parts_by : (tails : Tails) (text : List ℕ) → parts_at tails text ≡ (bytes_in text >> (λ good. program_at text >> with_program (length (lines text)) tails))
+pub parts_by : (tails : Tails) (text : List ℕ) → parts_at tails text ≡ (bytes_in text >> (λ good. program_at text >> with_program (length (lines text)) tails))
 unfolding parts_at with_charges with_readings with_program
 parts_by tails text = refl
 

@@ -1,5 +1,5 @@
 -- The lines that a section leaves are among those that it was given.
-use Rattle.ink_image.proofs.Common.{◌≡◌, ℕ, Bool, List, [], ◌∷◌, length, Result, Ok, Err, refl, sym, ap, ◌∙◌, subst, inl, inr, codes, AllByRecursion, Word, Line, is_header}
+use Rattle.ink_image.proofs.Common.{◌≡◌, ℕ, List, [], ◌∷◌, Result, Ok, subst, inl, inr, codes, AllByRecursion, Word, Line, is_header}
 use Rattle.std.proofs.lemmas.Bool.{cases_Bool}
 use Rattle.ink_base.specs.declared.fault.Cause.{Cause}
 use Rattle.ink_base.specs.declared.fault.JobFault.{JobFault}

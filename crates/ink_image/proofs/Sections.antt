@@ -26,7 +26,7 @@ pub onto_fails : (a : List ℕ) (r : Result (List ℕ) ℕ) (line : ℕ) → ont
 onto_fails a (Ok c) line h = absurd (cc)
 onto_fails a (Err other) line h = h
 
-section_header : (l : Line) (ls : List Line) → is_header l.words ≡ true → section_entries (l ∷ ls) ≡ []
+pub section_header : (l : Line) (ls : List Line) → is_header l.words ≡ true → section_entries (l ∷ ls) ≡ []
 section_header l ls h =
     ap (flat_map entries) (take_while-cons (λ (k : Line). not (is_header k.words)) l ls ∙ ap (λ (b : Bool). cond (not b) (l ∷ section_lines ls) []) h)
 

@@ -4,3 +4,5 @@ pub mod Form
 pub mod Image
 pub mod Whole
 pub mod Plain
+pub mod Before
+pub mod Last

@@ -86,7 +86,7 @@ abbrev pub IsJobOf : List ℕ → Result JobParts JobFault → Type 0
 IsJobOf text answer = IsJobBehind (whole_at image_tails text) answer
 
 -- the code's answer is one of these, unless memory ran out
-abbrev pub Answers : (Result JobParts JobFault → Type 0) → Result JobParts JobAnswer → Type 0
-Answers P (Ok job) = P (Ok job)
+abbrev pub Answers : {A : Type 0} → (Result A JobFault → Type 0) → Result A JobAnswer → Type 0
+Answers P (Ok x) = P (Ok x)
 Answers P (Err (job_answers.Fault fault)) = P (Err fault)
 Answers P (Err job_answers.NoMemory) = Unit {0}

@@ -1,6 +1,8 @@
-//! Tests of ink_io and ink_report through their public calls.
+//! Tests of ink_io, ink_image and ink_report through their public calls.
 #![tactic(auto)]
 
+#[cfg(test)]
+mod before;
 #[cfg(test)]
 mod images;
 #[cfg(test)]

@@ -1,6 +1,6 @@
 use Rattle.ink_image.proofs.Common.{◌∙◌, behind_settled}
 use Rattle.ink_image.proofs.Begun.{begun_of}
-use Rattle.ink_image.proofs.whole.job_from.Goals as goal
+use Rattle.ink_image.proofs.imaged.job_from.Goals as goal
 
 pub new-requires : goal.new-requires
 new-requires c =
