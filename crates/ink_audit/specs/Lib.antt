@@ -1,0 +1,5 @@
+pub mod Claim
+pub mod Differences
+pub mod Verdicts
+pub mod Laws
+pub mod kept
