@@ -7,3 +7,4 @@ pub mod Report
 pub mod Conditions
 pub mod Sweep
 pub mod kept
+pub mod Radio
