@@ -1,12 +1,17 @@
--- A text gives a mode a job or a fault, and not both.
+-- A text gives a mode its job or a fault, and not both.
 use Rattle.ink_modes.proofs.Common.{◌≡◌, ℕ, List, Option, Some, None, Ok, Err, JobParts, form_of}
 use Rattle.std.specs.Prelude.{Result}
 use Rattle.ink_base.specs.Gives.{◌>>◌}
 use Rattle.ink_base.specs.declared.fault.JobFault.{JobFault}
 use Rattle.ink_image.specs.Whole.{IsJobOf}
-use Rattle.ink_image.proofs.Once.{one_answer}
+use Rattle.ink_image.specs.Before.{IsJobBefore}
+use Rattle.ink_image.proofs.Once.{one_answer, one_before, one_last}
+use Rattle.ink_radio.specs.declared.event.RadioEvent.{RadioEvent}
+use Rattle.ink_modes.specs.declared.given.Given.{Given}
 use Rattle.ink_modes.specs.declared.modes.Mode.{Mode}
 use Rattle.ink_modes.specs.declared.modes.Mode.TheVariants as mode
+use Rattle.ink_modes.specs.modes.Audit.{claim_tails, with_claim}
+use Rattle.ink_modes.specs.modes.Radio.{radio_tails, script_of, with_script}
 use Rattle.ink_modes.specs.modes.Sweep.{past_at, unless_past}
 
 -- the answer of a text to a sweep, by the line where its turns are too many
@@ -21,8 +26,27 @@ swept_once (Ok (Some line)) text (Ok a) other job fault is there gives refuses =
 swept_once (Ok None) text (Ok a) (Ok b) job fault is there gives refuses = let clash : Err fault ≡ Ok b = refuses in absurd cc
 swept_once (Ok None) text (Ok a) (Err f) job fault is there gives refuses = one_answer text a f is there
 
-pub gives_once : (m : Mode) (text : List ℕ) (job : JobParts) (fault : JobFault) → (form_of m).gives text (Ok job) → (form_of m).gives text (Err fault) → ⊥
-gives_once mode.Run text job fault is refused = one_answer text job fault is refused
-gives_once mode.Soak text job fault is refused = one_answer text job fault is refused
-gives_once mode.Print text job fault is refused = one_answer text job fault is refused
-gives_once mode.Sweep text job fault is refused = swept_once (past_at text) text is.0 refused.0 job fault is.1 refused.1 is.2 refused.2
+-- the answer of a text to an audit
+claimed_once : (text : List ℕ) (one other : Result (JobParts × Option ℕ) JobFault) (given : Given) (fault : JobFault) → IsJobBefore claim_tails text one → IsJobBefore claim_tails text other →
+    Ok given ≡ (one >> with_claim text) → Err fault ≡ (other >> with_claim text) → ⊥
+claimed_once text (Err f) other given fault is there gives refuses = let clash : Ok given ≡ Err f = gives in absurd cc
+claimed_once text (Ok a) (Err f) given fault is there gives refuses = one_before claim_tails text a f is there
+claimed_once text (Ok (a, None)) (Ok b) given fault is there gives refuses = let clash : Ok given ≡ with_claim text (a, None) = gives in absurd cc
+claimed_once text (Ok (a, Some at)) (Ok (b, Some other)) given fault is there gives refuses = let clash : Err fault ≡ with_claim text (b, Some other) = refuses in absurd cc
+claimed_once text (Ok (a, Some at)) (Ok (b, None)) given fault is there gives refuses = let clash : Some at ≡ None = one_last claim_tails text (a, Some at) (b, None) is there in absurd cc
+
+-- and to a radio, by the script that it has
+scripted_once : (script : Result (List RadioEvent) JobFault) (text : List ℕ) (one other : Result (JobParts × Option ℕ) JobFault) (given : Given) (fault : JobFault) → IsJobBefore radio_tails text one →
+    IsJobBefore radio_tails text other → Ok given ≡ (one >> (λ x. script >> with_script x.0)) → Err fault ≡ (other >> (λ x. script >> with_script x.0)) → ⊥
+scripted_once script text (Err f) other given fault is there gives refuses = let clash : Ok given ≡ Err f = gives in absurd cc
+scripted_once script text (Ok a) (Err f) given fault is there gives refuses = one_before radio_tails text a f is there
+scripted_once (Err f) text (Ok a) (Ok b) given fault is there gives refuses = let clash : Ok given ≡ Err f = gives in absurd cc
+scripted_once (Ok events) text (Ok a) (Ok b) given fault is there gives refuses = let clash : Err fault ≡ with_script b.0 events = refuses in absurd cc
+
+pub gives_once : (m : Mode) (text : List ℕ) (given : Given) (fault : JobFault) → (form_of m).gives text (Ok given) → (form_of m).gives text (Err fault) → ⊥
+gives_once mode.Run text given fault is refused = one_answer text given.job fault is.0 refused
+gives_once mode.Soak text given fault is refused = one_answer text given.job fault is.0 refused
+gives_once mode.Print text given fault is refused = one_answer text given.job fault is.0 refused
+gives_once mode.Sweep text given fault is refused = swept_once (past_at text) text is.0.0 refused.0 given.job fault is.0.1 refused.1 is.0.2 refused.2
+gives_once mode.Audit text given fault is refused = claimed_once text is.0 refused.0 given fault is.1 refused.1 is.2 refused.2
+gives_once mode.Radio text given fault is refused = scripted_once (script_of text) text is.0 refused.0 given fault is.1 refused.1 is.2 refused.2

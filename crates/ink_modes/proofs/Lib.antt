@@ -1,4 +1,7 @@
 mod Common
+pub mod Tellable
+pub mod Outputs
+pub mod Saved
 pub mod Pieces
 pub mod Runs
 pub mod Gives

@@ -8,15 +8,15 @@ use Rattle.ink_io.specs.declared.answers.ReadAnswer.TheVariants as reading
 use Rattle.ink_io.specs.Counts.{Rose}
 use Rattle.ink_io.specs.States.{SourceState, SinkState}
 use Rattle.ink_io.specs.Whole.{GaveText, StopsRead, WroteText, WrotePart}
-use Rattle.job_parts.specs.Job.{JobParts}
 use Rattle.ink_modes.specs.declared.command.Command.{Command}
+use Rattle.ink_modes.specs.declared.given.Given.{Given}
 use Rattle.ink_modes.specs.declared.finish.Record.{Record}
 use Rattle.ink_modes.specs.declared.modes.Mode.{Mode}
 use Rattle.ink_modes.specs.modes.{form_of}
 use Rattle.ink_modes.specs.Words.{IsCommand}
 use Rattle.ink_modes.specs.Made.{OfText, Makes}
 
--- why a text gave no job to a mode: it refuses the text with this fault, or memory is refused
+-- why a text gave nothing to a mode: it refuses the text with this fault, or memory is refused
 abbrev pub StopsText : Mode → List ℕ → Status → Type 0
 StopsText mode text (Refused fault) = (form_of mode).gives text (Err fault)
 StopsText mode text NoMemory = Unit {0}
@@ -56,9 +56,9 @@ pub record Tells (words : List Word) (before now : SourceState) (sink sink_now :
   pub command : (command : Command) → IsCommand words command → TellsCommand command before now sink sink_now status kept
   pub usage : ((command : Command) → ¬ IsCommand words command) → DoesNothing before now sink sink_now status kept
 
--- the source has a text that gives a job to the mode, and tells it
+-- the source has a text that gives the mode its job, with all that it reads behind it, and tells it
 abbrev pub HasJob : Mode → SourceState → Type 0
-HasJob mode source = (text : List ℕ) × (source.left ≡ Some text) × (length text ≤ limits.TEXT_BYTES) × ((job : JobParts) × (form_of mode).gives text (Ok job))
+HasJob mode source = (text : List ℕ) × (source.left ≡ Some text) × (length text ≤ limits.TEXT_BYTES) × ((given : Given) × (form_of mode).gives text (Ok given))
 
 -- what a command needs of its source: nothing, where it has a seed
 abbrev pub Needs : Mode → Option ℕ → SourceState → Type 0

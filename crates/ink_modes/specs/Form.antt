@@ -2,9 +2,9 @@
 use Rattle.std.specs.Prelude.{◌≡◌, ℕ, Bool, true, false, List, Option, None, IsSome, Result}
 use Rattle.ink_base.specs.Lines.{Word}
 use Rattle.ink_base.specs.declared.fault.JobFault.{JobFault}
-use Rattle.job_parts.specs.Job.{JobParts}
 use Rattle.ink_report.specs.declared.flags.Flags.{Flags}
 use Rattle.ink_modes.specs.declared.command.Allowed.{Allowed}
+use Rattle.ink_modes.specs.declared.given.Given.{Given}
 use Rattle.ink_modes.specs.declared.finish.Record.{Record}
 
 -- a flag is there only where it is allowed
@@ -25,12 +25,12 @@ pub record IsAllowed (allowed : Allowed) (flags : Flags) : Type 0 where
   pub image : FitsFlag allowed.image flags.image
   pub seed : FitsSeed allowed.seed flags.seed
 
--- A mode: its word on the command line, the flags that it may have, the job that a text gives to it or the fault with which it refuses the text, the
--- records that it may make of a job, and the text of a record. The job is the one that is generated from the seed; a mode without a seed reads the text
--- from the source.
+-- A mode: its word on the command line, the flags that it may have, what a text gives to it or the fault with which it refuses the text, the records
+-- that it may make of that, and the text of a record. A mode with a seed is given the job that is generated from it, and one without a seed what the text
+-- from the source gives.
 pub record ModeForm : Type 1 where
   pub word : Word
   pub allowed : Allowed
-  pub gives : List ℕ → Result JobParts JobFault → Type 0
-  pub makes : JobParts → Record → Type 0
+  pub gives : List ℕ → Result Given JobFault → Type 0
+  pub makes : Given → Record → Type 0
   pub text : Flags → Record → List ℕ

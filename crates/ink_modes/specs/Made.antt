@@ -1,10 +1,11 @@
--- Of which job a command makes what it makes.
+-- Of what a command makes what it makes.
 use Rattle.std.specs.Prelude.{◌≡◌, ℕ, List, Option, Some, None, Ok}
-use Rattle.job_parts.specs.Job.{JobParts}
 use Rattle.power_trace.specs.Soak.{soak_of}
 use Rattle.ink_io.specs.States.{SourceState}
 use Rattle.ink_io.specs.Whole.{GaveText}
 use Rattle.ink_modes.specs.declared.command.Command.{Command}
+use Rattle.ink_modes.specs.declared.given.Given.{Given}
+use Rattle.ink_modes.specs.Given.{alone}
 use Rattle.ink_modes.specs.declared.finish.Record.{Record}
 use Rattle.ink_modes.specs.declared.modes.Mode.{Mode}
 use Rattle.ink_modes.specs.modes.{form_of}
@@ -13,11 +14,11 @@ use Rattle.ink_modes.specs.modes.{form_of}
 abbrev pub OfText : SourceState → SourceState → (List ℕ → Type 0) → Type 0
 OfText before now P = (text : List ℕ) × GaveText before now text × P text
 
--- the job that is generated from a seed, and nothing is read; with no seed, the one that the source's text gives to the mode
-abbrev pub GaveJob : Mode → Option ℕ → SourceState → SourceState → JobParts → Type 0
-GaveJob mode (Some number) before now job = (now ≡ before) × (job ≡ soak_of number)
-GaveJob mode None before now job = OfText before now (λ text. (form_of mode).gives text (Ok job))
+-- the job that is generated from a seed, and nothing is read; with no seed, what the source's text gives to the mode
+abbrev pub Gave : Mode → Option ℕ → SourceState → SourceState → Given → Type 0
+Gave mode (Some number) before now given = (now ≡ before) × (given ≡ alone (soak_of number))
+Gave mode None before now given = OfText before now (λ text. (form_of mode).gives text (Ok given))
 
--- the record is one that the command's mode makes of its job
+-- the record is one that the command's mode makes of what it is given
 abbrev pub Makes : Command → SourceState → SourceState → Record → Type 0
-Makes command before now made = (job : JobParts) × GaveJob command.mode command.flags.seed before now job × (form_of command.mode).makes job made
+Makes command before now made = (given : Given) × Gave command.mode command.flags.seed before now given × (form_of command.mode).makes given made

@@ -1,2 +1,3 @@
 -- What only a proof keeps.
 pub mod Asked
+pub mod Script

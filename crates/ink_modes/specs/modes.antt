@@ -9,10 +9,14 @@ use Rattle.ink_modes.specs.modes.Run.{run}
 use Rattle.ink_modes.specs.modes.Soak.{soak}
 use Rattle.ink_modes.specs.modes.Sweep.{sweep}
 use Rattle.ink_modes.specs.modes.Print.{print}
+use Rattle.ink_modes.specs.modes.Audit.{audit}
+use Rattle.ink_modes.specs.modes.Radio.{radio}
 pub mod Run
 pub mod Soak
 pub mod Sweep
 pub mod Print
+pub mod Audit
+pub mod Radio
 
 -- what each mode is
 abbrev pub form_of : Mode → ModeForm
@@ -20,7 +24,9 @@ form_of mode.Run = run
 form_of mode.Soak = soak
 form_of mode.Sweep = sweep
 form_of mode.Print = print
+form_of mode.Audit = audit
+form_of mode.Radio = radio
 
 -- the mode whose word this is
 abbrev pub mode_named : Word → Option Mode
-mode_named word = find (λ m. bytes_eq word (form_of m).word) (mode.Run ∷ mode.Soak ∷ mode.Sweep ∷ mode.Print ∷ [])
+mode_named word = find (λ m. bytes_eq word (form_of m).word) (mode.Run ∷ mode.Soak ∷ mode.Sweep ∷ mode.Print ∷ mode.Audit ∷ mode.Radio ∷ [])

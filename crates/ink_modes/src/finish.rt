@@ -1,6 +1,8 @@
 //! How a call of the program ends.
 
+use ink_audit::Verdict;
 use ink_base::Status;
+use ink_radio::RadioRecord;
 use ink_report::SweepTable;
 use kernel_core::RunRecord;
 use prog_check::Accepted;
@@ -14,6 +16,10 @@ pub enum Record {
     Sweep(SweepTable),
     /// The program that was printed.
     Print(Accepted),
+    /// What is said of a claim.
+    Audit(Verdict),
+    /// The record of the board that was run, and what a script made of its outputs.
+    Radio(RunRecord, RadioRecord),
 }
 
 /// The status of a call, and the record of its mode; none where nothing was made of a job.

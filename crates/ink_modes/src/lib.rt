@@ -5,15 +5,18 @@
 mod command;
 mod complaint;
 mod finish;
+mod given;
 mod making;
 mod modes;
 mod report;
+mod text;
 mod top;
 mod words;
 
 pub use command::{Allowed, Command};
 pub use complaint::{Complaint, exit_code};
 pub use finish::{Finish, Record};
+pub use given::Given;
 pub use modes::Mode;
 pub use top::board;
 pub use words::command_of;

@@ -3,16 +3,18 @@
 ghost use Rattle.std.specs.Prelude.{◌≡◌, ◌≤◌, length, Ok, IfOk, IfErr};
 ghost use Rattle.ink_modes.specs.Form.{IsAllowed};
 ghost use Rattle.ink_modes.specs.modes.{form_of};
-ghost use Rattle.ink_modes.specs.Made.{OfText, GaveJob, Makes};
+ghost use Rattle.ink_modes.specs.Given.{IsShort};
+ghost use Rattle.ink_modes.specs.Made.{OfText, Gave, Makes};
 ghost use Rattle.ink_modes.specs.Answers.{StopsText, StopsReading, Stops};
 
 use crate::command::Command;
 use crate::finish::Record;
+use crate::given::Given;
 use crate::modes::Mode;
 use ink_base::limits::TEXT_BYTES;
 use ink_base::{JobAnswer, NoMemory, Status};
 use ink_io::{ReadAnswer, Source, read_job};
-use power_trace::{Job, soak_job};
+use power_trace::soak_job;
 use std::alloc::Global;
 
 /// The record of a command, and its text.
@@ -22,60 +24,63 @@ pub struct Made {
     pub text: Vec<u8>,
 }
 
-/// What a command makes of its job.
+/// What a command makes of what it is given.
 pub fn make<S: Source>(alloc: Global, command: Command, source: &mut S) -> Result<Made, Status>
     requires { IsAllowed (form_of command.mode).allowed command.flags }
     ensures record { IfOk result (λ made. Makes command (S.state source.old) (S.state source.new) made.record) }
     ensures text { IfOk result (λ made. made.text.items ≡ (form_of command.mode).text command.flags made.record) }
     ensures stops { IfErr result (Stops command.mode command.flags.seed (S.state source.old) (S.state source.new)) }
 {
-    let job = given_job(alloc, command.mode, command.flags.seed, source)?;
-    match command.mode.make(alloc, command.flags, job) {
+    let given = given_to(alloc, command.mode, command.flags.seed, source)?;
+    match command.mode.make(alloc, command.flags, given) {
         Ok(made) => Ok(made),
         Err(NoMemory) => Err(Status::NoMemory),
     }
 }
 
-// The job that is generated from a seed; with no seed, the one on the source.
-fn given_job<S: Source>(
+// The job that is generated from a seed; with no seed, what the text on the source gives to a mode.
+fn given_to<S: Source>(
     alloc: Global,
     mode: Mode,
     seed: Option<u32>,
     source: &mut S,
-) -> Result<Job, Status>
-    ensures job { IfOk result (GaveJob mode seed (S.state source.old) (S.state source.new)) }
+) -> Result<Given, Status>
+    ensures given { IfOk result (Gave mode seed (S.state source.old) (S.state source.new)) }
+    ensures short { IfOk result IsShort }
     ensures stops { IfErr result (Stops mode seed (S.state source.old) (S.state source.new)) }
 {
     let Some(number) = seed else {
-        return job_on(alloc, mode, source);
+        return given_on(alloc, mode, source);
     };
     match soak_job(alloc, number) {
-        Ok(job) => Ok(job),
+        Ok(job) => Ok(Given::alone(alloc, job)),
         Err(NoMemory) => Err(Status::NoMemory),
     }
 }
 
-// The job that the text on the source gives to a mode.
-fn job_on<S: Source>(alloc: Global, mode: Mode, source: &mut S) -> Result<Job, Status>
-    ensures job { IfOk result (λ job. OfText (S.state source.old) (S.state source.new) (λ text. (form_of mode).gives text (Ok job))) }
+// What the text on the source gives to a mode.
+fn given_on<S: Source>(alloc: Global, mode: Mode, source: &mut S) -> Result<Given, Status>
+    ensures given { IfOk result (λ given. OfText (S.state source.old) (S.state source.new) (λ text. (form_of mode).gives text (Ok given))) }
+    ensures short { IfOk result IsShort }
     ensures stops { IfErr result (StopsReading mode (S.state source.old) (S.state source.new)) }
 {
     match read_job(alloc, source) {
-        Ok(text) => job_in(alloc, mode, text.as_slice()),
+        Ok(text) => given_in(alloc, mode, text.as_slice()),
         Err(ReadAnswer::ReadFault) => Err(Status::ReadFault),
         Err(ReadAnswer::TooLong) => Err(Status::TooLong),
         Err(ReadAnswer::NoMemory) => Err(Status::NoMemory),
     }
 }
 
-// The job that a text gives to a mode. Refused where the mode refuses the text, with its fault.
-fn job_in(alloc: Global, mode: Mode, text: &[u8]) -> Result<Job, Status>
+// What a text gives to a mode. Refused where the mode refuses the text, with its fault.
+fn given_in(alloc: Global, mode: Mode, text: &[u8]) -> Result<Given, Status>
     requires { length text.now ≤ TEXT_BYTES }
-    ensures job { IfOk result (λ job. (form_of mode).gives text.now (Ok job)) }
+    ensures given { IfOk result (λ given. (form_of mode).gives text.now (Ok given)) }
+    ensures short { IfOk result IsShort }
     ensures stops { IfErr result (StopsText mode text.now) }
 {
-    match mode.job_of(alloc, text) {
-        Ok(job) => Ok(job),
+    match mode.given(alloc, text) {
+        Ok(given) => Ok(given),
         Err(JobAnswer::Fault(fault)) => Err(Status::Refused(fault)),
         Err(JobAnswer::NoMemory) => Err(Status::NoMemory),
     }

@@ -3,20 +3,22 @@
 ghost use Rattle.std.specs.Prelude.{◌≡◌, ◌≤◌, length, IfOk};
 ghost use Rattle.ink_image.specs.Whole.{Answers};
 ghost use Rattle.ink_modes.specs.Form.{IsAllowed};
+ghost use Rattle.ink_modes.specs.Given.{IsShort};
 ghost use Rattle.ink_modes.specs.modes.{form_of, mode_named};
 
+mod audit;
 mod print;
+mod radio;
 mod run;
 mod soak;
 mod sweep;
 
 use crate::command::Allowed;
+use crate::given::{Given, job_alone};
 use crate::making::Made;
 use ink_base::limits::TEXT_BYTES;
 use ink_base::{JobAnswer, NoMemory};
-use ink_image::whole_job;
 use ink_report::Flags;
-use power_trace::Job;
 use std::alloc::Global;
 
 /// What is done with a job.
@@ -31,6 +33,11 @@ pub enum Mode {
     Sweep,
     /// `print`: the canonical text of the program of the job on the source is written.
     Print,
+    /// `audit`: the claim behind the job on the source is judged, and the verdict is written.
+    Audit,
+    /// `radio`: the board of the job on the source is run, the script behind the job is played over its outputs, and what the base has then is
+    /// written.
+    Radio,
 }
 
 impl Mode {
@@ -43,6 +50,8 @@ impl Mode {
             "soak" => Some(Mode::Soak),
             "sweep" => Some(Mode::Sweep),
             "print" => Some(Mode::Print),
+            "audit" => Some(Mode::Audit),
+            "radio" => Some(Mode::Radio),
             _ => None,
         }
     }
@@ -56,31 +65,39 @@ impl Mode {
             Mode::Soak => soak::ALLOWED,
             Mode::Sweep => sweep::ALLOWED,
             Mode::Print => print::ALLOWED,
+            Mode::Audit => audit::ALLOWED,
+            Mode::Radio => radio::ALLOWED,
         }
     }
 
-    /// The job that a text gives to it, or the fault with which it refuses the text.
-    pub fn job_of(self, alloc: Global, text: &[u8]) -> Result<Job, JobAnswer>
+    /// What a text gives to it, or the fault with which it refuses the text.
+    pub fn given(self, alloc: Global, text: &[u8]) -> Result<Given, JobAnswer>
         requires { length text.now ≤ TEXT_BYTES }
-        ensures { Answers ((form_of self).gives text.now) result }
+        ensures given { Answers ((form_of self).gives text.now) result }
+        ensures short { IfOk result IsShort }
     {
         match self {
-            Mode::Sweep => sweep::job_of(alloc, text),
-            Mode::Run | Mode::Soak | Mode::Print => whole_job(alloc, text),
+            Mode::Run | Mode::Soak | Mode::Print => job_alone(alloc, text),
+            Mode::Sweep => sweep::given(alloc, text),
+            Mode::Audit => audit::given(alloc, text),
+            Mode::Radio => radio::given(alloc, text),
         }
     }
 
-    /// What it makes of a job, and the text of that.
-    pub fn make(self, alloc: Global, flags: Flags, job: Job) -> Result<Made, NoMemory>
-        requires { IsAllowed (form_of self).allowed flags }
-        ensures record { IfOk result (λ made. (form_of self).makes job made.record) }
+    /// What it makes of what it is given, and the text of that.
+    pub fn make(self, alloc: Global, flags: Flags, given: Given) -> Result<Made, NoMemory>
+        requires allowed { IsAllowed (form_of self).allowed flags }
+        requires short { IsShort given }
+        ensures record { IfOk result (λ made. (form_of self).makes given made.record) }
         ensures text { IfOk result (λ made. made.text.items ≡ (form_of self).text flags made.record) }
     {
         match self {
-            Mode::Run => run::make(alloc, flags, job),
-            Mode::Soak => soak::make(alloc, flags, job),
-            Mode::Sweep => sweep::make(alloc, flags, job),
-            Mode::Print => print::make(alloc, flags, job),
+            Mode::Run => run::make(alloc, flags, given),
+            Mode::Soak => soak::make(alloc, flags, given),
+            Mode::Sweep => sweep::make(alloc, flags, given),
+            Mode::Print => print::make(alloc, flags, given),
+            Mode::Audit => audit::make(alloc, flags, given),
+            Mode::Radio => radio::make(alloc, flags, given),
         }
     }
 }

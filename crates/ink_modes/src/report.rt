@@ -34,11 +34,12 @@ pub fn report(alloc: Global, run: &RunRecord, flags: Flags) -> Result<Vec<u8>, N
     Ok(out)
 }
 
-// The state of the never-cut kernel after the entries of all charges.
-fn state_after(alloc: Global, job: &Job, charges: &[ChargeRecord]) -> Result<Model, NoMemory>
+/// The state of the never-cut kernel after the entries of all charges.
+pub fn state_after(alloc: Global, job: &Job, charges: &[ChargeRecord]) -> Result<Model, NoMemory>
     requires legal { IsLegal job.now.program job.now.readings (first_of job.now) (flat_map entries_of charges.now) }
     requires few { length (flat_map entries_of charges.now) < 2 ^ 32 }
-    ensures { IfOk result (λ m. m ≡ after job.now.program job.now.readings (first_of job.now) (flat_map entries_of charges.now)) }
+    ensures state { IfOk result (λ m. m ≡ after job.now.program job.now.readings (first_of job.now) (flat_map entries_of charges.now)) }
+    ensures job { IfOk result (λ _. IsJob job.now) }
 {
     let mut state = first_state(alloc, job)?;
     for charge in charges {

@@ -1,8 +1,10 @@
 //! What a call keeps.
 
 use crate::fixtures::{FIRST_JOB, called, source_of};
+use ink_audit::Verdict;
 use ink_io::SureSink;
 use ink_modes::Record;
+use ink_radio::RadioRecord;
 use kernel_core::{ChargeRecord, RunRecord};
 use std::alloc::{AllocError, Global};
 use std::test::Fail;
@@ -83,14 +85,65 @@ fn a_program_that_was_printed_is_kept(rt: HostRuntime) -> Result<(), Fail> {
     Ok(())
 }
 
-fn keeps_nothing(alloc: Global, job: &str, call: u64) -> Result<bool, AllocError> {
-    let kept = kept_of(alloc, "run", job, call)?;
+// What follows a job in front of a claim, a text of its run with its journal.
+const RIGHT_CLAIM: &str =
+    "[claim]\n1 a 7\nthread a served 1 trapped 0 expired 0 held 0\nsource S0 next 1 pushed 1 refused 0\nclock 0 commits 1 charges 1\n[journal]\nTick 0\nPush S0\nScan\nCommit a\nRelease a\n";
+
+// The same without the line of the reading that is pushed.
+const CLAIM_WITHOUT_PUSH: &str =
+    "[claim]\n1 a 7\nthread a served 1 trapped 0 expired 0 held 0\nsource S0 next 1 pushed 1 refused 0\nclock 0 commits 1 charges 1\n[journal]\nTick 0\nScan\nCommit a\nRelease a\n";
+
+fn keeps_verdict(alloc: Global, claim: &str, verdict: Verdict) -> Result<bool, AllocError> {
+    let text = format!(in alloc; "{FIRST_JOB}{claim}")?;
+    match kept_of(alloc, "audit", text.as_str(), NEVER)? {
+        Some(Record::Audit(kept)) => Ok(kept == verdict),
+        _ => Ok(false),
+    }
+}
+
+#[test]
+fn the_verdict_on_a_claim_is_kept(rt: HostRuntime) -> Result<(), Fail> {
+    assert!(rt; keeps_verdict(rt.alloc(), RIGHT_CLAIM, Verdict::Yes)?);
+    assert!(rt; keeps_verdict(rt.alloc(), CLAIM_WITHOUT_PUSH, Verdict::No { line: 8 })?);
+    Ok(())
+}
+
+// What follows a job whose one output the base saves.
+const SCRIPT: &str = "[radio]\ngrow 2\nsend\ntobase 0\nsave\ntonode 1\n";
+
+fn has_saved(told: &RadioRecord, value: u32) -> bool {
+    match told.saved.as_slice() {
+        [output] => output.value == value && told.acked == 1 && told.air.len() == 2,
+        _ => false,
+    }
+}
+
+fn keeps_saved(alloc: Global, script: &str, value: u32) -> Result<bool, AllocError> {
+    let text = format!(in alloc; "{FIRST_JOB}{script}")?;
+    match &kept_of(alloc, "radio", text.as_str(), NEVER)? {
+        Some(Record::Radio(run, told)) => {
+            Ok(has_one_charge(run, 200, 9) && has_saved(told, value))
+        }
+        _ => Ok(false),
+    }
+}
+
+#[test]
+fn what_a_base_has_is_kept_beside_the_run(rt: HostRuntime) -> Result<(), Fail> {
+    assert!(rt; keeps_saved(rt.alloc(), SCRIPT, 7)?);
+    Ok(())
+}
+
+fn keeps_nothing(alloc: Global, mode: &str, job: &str, call: u64) -> Result<bool, AllocError> {
+    let kept = kept_of(alloc, mode, job, call)?;
     Ok(kept.is_none())
 }
 
 #[test]
 fn nothing_is_kept_of_a_job_that_is_not_read_or_refused(rt: HostRuntime) -> Result<(), Fail> {
-    assert!(rt; keeps_nothing(rt.alloc(), FIRST_JOB, 2)?);
-    assert!(rt; keeps_nothing(rt.alloc(), "[program]\n", NEVER)?);
+    assert!(rt; keeps_nothing(rt.alloc(), "run", FIRST_JOB, 2)?);
+    assert!(rt; keeps_nothing(rt.alloc(), "run", "[program]\n", NEVER)?);
+    assert!(rt; keeps_nothing(rt.alloc(), "audit", FIRST_JOB, NEVER)?);
+    assert!(rt; keeps_nothing(rt.alloc(), "radio", FIRST_JOB, NEVER)?);
     Ok(())
 }

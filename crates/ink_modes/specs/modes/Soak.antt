@@ -1,6 +1,7 @@
 -- `soak`: the board of the job that is generated from the seed is run, and the text of the run is written without its outputs.
 use Rattle.std.specs.Prelude.{true, false, codes}
 use Rattle.ink_image.specs.Whole.{IsJobOf}
+use Rattle.ink_modes.specs.Given.{Alone}
 use Rattle.ink_modes.specs.Form.{ModeForm}
 use Rattle.ink_modes.specs.modes.Run.{Makes, text}
 
@@ -9,7 +10,7 @@ abbrev pub soak : ModeForm
 soak = record {
   word = codes "soak";
   allowed = record { journal = true; json = true; bounds = true; image = false; seed = true };
-  gives = IsJobOf;
+  gives = λ text. Alone (IsJobOf text);
   makes = Makes;
   text = text;
 }

@@ -13,6 +13,8 @@ use Rattle.cut_sweep.specs.Limit.{line_past}
 use Rattle.cut_sweep.specs.Sweep.{IsSweepOf}
 use Rattle.ink_modes.specs.declared.finish.Record.{Record}
 use Rattle.ink_modes.specs.declared.finish.Record.TheVariants.{Sweep}
+use Rattle.ink_modes.specs.declared.given.Given.{Given}
+use Rattle.ink_modes.specs.Given.{Alone}
 use Rattle.ink_modes.specs.Form.{ModeForm}
 
 -- the line of the charge with which the charges of a text list more turns than a sweep may have
@@ -29,9 +31,9 @@ abbrev pub Gives : List ℕ → Result JobParts JobFault → Type 0
 Gives text answer = (whole : Result JobParts JobFault) × IsJobOf text whole × (answer ≡ (whole >> (λ job. past_at text >> (λ line. unless_past job line))))
 
 -- the table of the job's runs
-abbrev pub Makes : JobParts → Record → Type 0
-Makes job (Sweep table) = IsSweepOf job table
-Makes job _ = ⊥
+abbrev pub Makes : Given → Record → Type 0
+Makes given (Sweep table) = IsSweepOf given.job table
+Makes given _ = ⊥
 
 -- a line for each of its rows
 abbrev pub text : Flags → Record → List ℕ
@@ -43,7 +45,7 @@ abbrev pub sweep : ModeForm
 sweep = record {
   word = codes "sweep";
   allowed = record { journal = false; json = false; bounds = false; image = false; seed = false };
-  gives = Gives;
+  gives = λ text. Alone (Gives text);
   makes = Makes;
   text = text;
 }

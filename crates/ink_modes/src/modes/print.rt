@@ -5,10 +5,10 @@ ghost use Rattle.ink_modes.specs.modes.Print.{Makes, text};
 
 use crate::command::Allowed;
 use crate::finish::Record;
+use crate::given::Given;
 use crate::making::Made;
 use ink_base::NoMemory;
 use ink_report::Flags;
-use power_trace::Job;
 use program_text::print_program;
 use std::alloc::Global;
 
@@ -16,11 +16,11 @@ use std::alloc::Global;
 pub const ALLOWED: Allowed = Allowed::NONE;
 
 /// The program of a job, and its canonical text.
-pub fn make(alloc: Global, _flags: Flags, job: Job) -> Result<Made, NoMemory>
-    ensures record { IfOk result (λ made. Makes job made.record) }
+pub fn make(alloc: Global, _flags: Flags, given: Given) -> Result<Made, NoMemory>
+    ensures record { IfOk result (λ made. Makes given made.record) }
     ensures text { IfOk result (λ made. made.text.items ≡ text _flags made.record) }
 {
-    let (program, _readings, _charges, _start) = job.into_parts();
+    let (program, _readings, _charges, _start) = given.job.into_parts();
     let text = print_program(alloc, &program)?;
     Ok(Made {
         record: Record::Print(program),

@@ -6,6 +6,7 @@ ghost use Rattle.ink_modes.specs.modes.Run.{Makes, image_part, text};
 
 use crate::command::Allowed;
 use crate::finish::Record;
+use crate::given::Given;
 use crate::making::Made;
 use crate::report::report;
 use ink_base::NoMemory;
@@ -25,11 +26,11 @@ pub const ALLOWED: Allowed = Allowed {
 };
 
 /// The record of the whole run of a job, and its text.
-pub fn make(alloc: Global, flags: Flags, job: Job) -> Result<Made, NoMemory>
-    ensures record { IfOk result (λ made. Makes job made.record) }
+pub fn make(alloc: Global, flags: Flags, given: Given) -> Result<Made, NoMemory>
+    ensures record { IfOk result (λ made. Makes given made.record) }
     ensures text { IfOk result (λ made. made.text.items ≡ text flags made.record) }
 {
-    let record = record_of(alloc, job)?;
+    let record = record_of(alloc, given.job)?;
     let mut text = report(alloc, &record, flags)?;
     put_image(alloc, &mut text, &record, flags)?;
     Ok(Made {
@@ -38,8 +39,8 @@ pub fn make(alloc: Global, flags: Flags, job: Job) -> Result<Made, NoMemory>
     })
 }
 
-// The record of the whole run of a job.
-fn record_of(alloc: Global, job: Job) -> Result<RunRecord, NoMemory>
+/// The record of the whole run of a job.
+pub fn record_of(alloc: Global, job: Job) -> Result<RunRecord, NoMemory>
     ensures { IfOk result (IsRunOf job) }
 {
     let mut core = prepare(alloc, job)?;

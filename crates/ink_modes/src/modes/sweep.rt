@@ -4,11 +4,13 @@
 ghost use Rattle.std.specs.Prelude.{◌≡◌, ◌≤◌, length, IfOk};
 ghost use Rattle.ink_base.specs.Gives.{GivesJob};
 ghost use Rattle.ink_image.specs.Whole.{Answers};
+ghost use Rattle.ink_modes.specs.Given.{Alone, IsShort};
 ghost use Rattle.ink_modes.specs.modes.Sweep.{Gives, Makes, past_at};
 ghost use Rattle.ink_modes.specs.modes.Sweep.{text as text_of};
 
 use crate::command::Allowed;
 use crate::finish::Record;
+use crate::given::Given;
 use crate::making::Made;
 use cut_sweep::{line_past, sweep};
 use ink_base::limits::TEXT_BYTES;
@@ -21,9 +23,21 @@ use std::alloc::Global;
 /// It has no flags.
 pub const ALLOWED: Allowed = Allowed::NONE;
 
-/// The job of a text that may end with an image, or its first fault, as `whole_job` gives it. A job without a fault is `OverLimit` where its
-/// charges list more than 8,192 turns: at the line of the charge with which they are more.
-pub fn job_of(alloc: Global, text: &[u8]) -> Result<Job, JobAnswer>
+/// The job of a text, alone, or the fault with which a sweep refuses the text.
+pub fn given(alloc: Global, text: &[u8]) -> Result<Given, JobAnswer>
+    requires { length text.now ≤ TEXT_BYTES }
+    ensures given { Answers (Alone (Gives text.now)) result }
+    ensures short { IfOk result IsShort }
+{
+    match job_of(alloc, text) {
+        Ok(job) => Ok(Given::alone(alloc, job)),
+        Err(answer) => Err(answer),
+    }
+}
+
+// The job of a text that may end with an image, or its first fault, as `whole_job` gives it. A job without a fault is `OverLimit` where its
+// charges list more than 8,192 turns: at the line of the charge with which they are more.
+fn job_of(alloc: Global, text: &[u8]) -> Result<Job, JobAnswer>
     requires { length text.now ≤ TEXT_BYTES }
     ensures { Answers (Gives text.now) result }
 {
@@ -54,11 +68,11 @@ fn past_in(alloc: Global, text: &[u8]) -> Result<Option<u32>, JobAnswer>
 }
 
 /// The table of the runs of a job, and its text.
-pub fn make(alloc: Global, _flags: Flags, job: Job) -> Result<Made, NoMemory>
-    ensures record { IfOk result (λ made. Makes job made.record) }
+pub fn make(alloc: Global, _flags: Flags, given: Given) -> Result<Made, NoMemory>
+    ensures record { IfOk result (λ made. Makes given made.record) }
     ensures text { IfOk result (λ made. made.text.items ≡ text_of _flags made.record) }
 {
-    let table = sweep(alloc, &job)?;
+    let table = sweep(alloc, &given.job)?;
     let text = sweep_text(alloc, &table)?;
     Ok(Made {
         record: Record::Sweep(table),
