@@ -1,0 +1,17 @@
+pub mod Below
+pub mod Lines
+pub mod Greatest
+pub mod Closed
+pub mod Reading
+pub mod Rests
+pub mod Paths
+pub mod Pages
+pub mod Steps
+pub mod Runs
+pub mod Costs
+pub mod Heaviest
+pub mod Counted
+pub mod Nears
+pub mod Least
+pub mod Straight
+pub mod Slacks
