@@ -1,0 +1,4 @@
+pub mod Parts
+pub mod Jobs
+pub mod Running
+pub mod kept

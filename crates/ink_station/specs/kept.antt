@@ -1,0 +1,3 @@
+-- What only the proofs speak of.
+pub mod Cores
+pub mod Within

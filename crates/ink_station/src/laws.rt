@@ -1,0 +1,9 @@
+//! What the text of a board's job keeps.
+
+ghost use Rattle.ink_station.specs.Parts.{LinesStay};
+
+/// Of every text and every part of it, the lines of the part's job have the numbers that they have in the whole text, and no other line of
+/// the job's text has a word. So a fault of the job is told at its line of the whole text.
+pub fn lines_stay()
+    ensures lines { LinesStay }
+{}
