@@ -1,0 +1,16 @@
+pub mod Restarts
+pub mod Pushes
+pub mod Rows
+pub mod Acks
+pub mod Turns
+pub mod Seeing
+pub mod Looking
+pub mod Besides
+pub mod Words
+pub mod Stores
+pub mod Standings
+pub mod Steps
+pub mod Charges
+pub mod Acting
+pub mod Ticking
+pub mod ProgramLays

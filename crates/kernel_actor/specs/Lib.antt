@@ -1,0 +1,9 @@
+pub mod Kinds
+pub mod Lays
+pub mod Accounts
+pub mod Rows
+pub mod Books
+pub mod Acting
+pub mod Ticks
+pub mod Looks
+pub mod kept
