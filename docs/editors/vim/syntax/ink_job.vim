@@ -18,7 +18,10 @@ syn keyword inkJobTodo TODO FIXME XXX contained
 
 " Headers of sections; another line that begins with a bracket is none
 syn match inkJobNoHeader /^\s*\zs\[[^#]*/
-syn match inkJobHeader /^\s*\zs\[\%(program\|sensors\|power\|image[12]\)\]\ze\s*\%(#\|$\)/
+syn match inkJobHeader /^\s*\zs\[\%(program\|sensors\|power\|image[12]\|radio\)\]\ze\s*\%(#\|$\)/
+
+" A claim, which has words of no job: it ends the text
+syn region inkJobClaim matchgroup=inkJobHeader start=/^\s*\zs\[claim\]\ze\s*\%(#\|$\)/ end=/\%$/ contains=NONE
 
 " Words within lines
 syn match inkJobNumber /\%(\s\)\@<=\d\{1,10}\ze\%(\s\|#\|$\)/ contained
@@ -44,6 +47,11 @@ syn match inkJobInstructionLine /^\s*\%(jmp\|jz\|jnz\|send\|arm\|stop\|next\|don
 " The words of an image
 syn match inkJobWord /\%(^\|\s\)\@<=\x\{16}\ze\%(\s\|#\|$\)/
 
+" The events of a script
+syn match inkJobEvent /^\s*\zs\l\+\ze\%(\s\|#\|$\)/ contained
+syn match inkJobEventLine /^\s*\%(grow\|tobase\|tonode\)\s\+\d[^#]*\ze\%(#\|$\)/ contains=inkJobEvent,inkJobNumber
+syn match inkJobEventLine /^\s*\%(send\|rewind\|nodecut\|save\|basecut\)\ze\s*\%(#\|$\)/ contains=inkJobEvent
+
 " Readings and charges
 syn match inkJobReadings /^\s*S\d\+\%(\s[^#]*\)\=\ze\%(#\|$\)/ contains=inkJobSource,inkJobNumber
 syn match inkJobCharge /^\s*\zscharge\ze\%(\s\|#\|$\)/ contained
@@ -65,5 +73,7 @@ hi def link inkJobWord Number
 hi def link inkJobSource Special
 hi def link inkJobActor Special
 hi def link inkJobCharge Keyword
+hi def link inkJobEvent Keyword
+hi def link inkJobClaim String
 
 let b:current_syntax = "ink_job"
