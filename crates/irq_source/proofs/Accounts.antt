@@ -154,6 +154,10 @@ AccountAfter port readings begun charge k src seat accepted refused st point =
 unchanged : {readings : List ℕ} {places begun src : ℕ} {s : Knows} {accepted : List Published} {refused : List Declined} → Accounts readings places begun src s accepted refused → Accounts readings places begun src s (accepted ++ []) (refused ++ [])
 unchanged {readings} {places} {begun} {src} {s} {accepted} {refused} h = subst (λ (z : List Published × List Declined). Accounts readings places begun src s z.0 z.1) (sym (λ j. (append-nil accepted j, append-nil refused j))) h
 
+-- SRC and the publications stay
+same_settled : {src src' : ℕ} {s s' : Knows} → src' ≡ src → s'.next ≡ s.next → settled_of src s ≤ settled_of src' s'
+same_settled {src} {src'} {s} {s'} same next = let now : settled_of src' s' ≡ settled_of src s = λ j. max (same j / 2 ^ 32) (next j) in omega (arith, now)
+
 -- nor to the publications
 quiet : {readings : List ℕ} {places begun src : ℕ} {s : Knows} {accepted : List Published} {refused : List Declined} (src' : ℕ) (s' : Knows) → Accounts readings places begun src s accepted refused → src' ≡ src → s'.mine ≡ s.mine → s'.next ≡ s.next → Added s s'
     → Accounts readings places begun src' s' (accepted ++ []) (refused ++ [])
@@ -213,3 +217,32 @@ module _ {set : QueueSet} {port : Port} {readings : List ℕ} {a k src begun cha
       let was = settled_behind (length readings) src a k (known (view old) old.source.0) stands.at.0 stands.src_kept stands.at.1 in
       let now = settled_here (length readings) src' (a + 1) (k + 1) (known (view new) new.source.0) made.stands.at.0 made.stands.src_kept made.stands.at.1 in
       unchanged (account_goes_on begun src' (known (view new) new.source.0) (omega arith) (ap mine_of made.found.1) (now ∙ sym was) made.added.out h)
+
+  -- and no access settles a reading less
+  pub settled_kept : (st : Stage) → HasMade set port readings (row_at a k st) src old new word src' → Stands port (length readings) src (known (view old) old.source.0) (row_at a k st) → settled_of src (known (view old) old.source.0) ≤ settled_of src' (known (view new) new.source.0)
+  settled_kept stages.LoadSrc made stands = same_settled made.found.1 (ap next_of made.found.2)
+  settled_kept (stages.LoadSlots n seen) made stands = same_settled made.found.0 (ap next_of made.found.1)
+  settled_kept (stages.LoadAck seen) made stands = same_settled made.found.0 (ap next_of made.found.1)
+  settled_kept stages.LoadTail made stands = same_settled made.found.0 (ap next_of made.found.1)
+  settled_kept (stages.LoadSlot p) made stands = same_settled made.found.0 (ap next_of made.found.1)
+  settled_kept (stages.Publish p) made stands = by_test (word == empty_word p) refl
+    where
+      next_is : (b : Bool) → (word == empty_word p) ≡ b → next_of (calls_of (view new)) ≡ cond b (k + 1) (next_of (calls_of (view old)))
+      next_is b is = ap next_of made.found.1 ∙ ap (λ (c : Bool). cond c (k + 1) (next_of (calls_of (view old)))) is
+
+      by_test : (b : Bool) → (word == empty_word p) ≡ b → settled_of src (known (view old) old.source.0) ≤ settled_of src' (known (view new) new.source.0)
+      by_test true is =
+          let was = settled_here (length readings) src a k (known (view old) old.source.0) stands.at.0 stands.src_kept stands.at.1 in
+          let next = next_is true is in
+          omega (arith, was, next)
+      by_test false is = same_settled made.found.0 (next_is false is)
+  settled_kept (stages.MoveTail p) made stands = same_settled made.found.0 (ap next_of made.found.1)
+  settled_kept (stages.HelpTail p) made stands = same_settled made.found.0 (ap next_of made.found.1)
+  settled_kept stages.StoreSkip made stands =
+      let was = settled_here (length readings) src a k (known (view old) old.source.0) stands.at.0 stands.src_kept stands.at.1 in
+      let now = settled_here (length readings) src' a (k + 1) (known (view new) new.source.0) made.stands.at.0 made.stands.src_kept made.stands.at.1 in
+      omega (arith, was, now)
+  settled_kept stages.StoreAccepted made stands =
+      let was = settled_behind (length readings) src a k (known (view old) old.source.0) stands.at.0 stands.src_kept stands.at.1 in
+      let now = settled_here (length readings) src' (a + 1) (k + 1) (known (view new) new.source.0) made.stands.at.0 made.stands.src_kept made.stands.at.1 in
+      omega (arith, was, now)

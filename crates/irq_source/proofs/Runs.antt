@@ -20,6 +20,7 @@ run_none a account h = record {
   begun = refl;
   leads = refl;
   added = added_none (knows a);
+  settles = omega arith;
   grows = grows_none a.port.queue.places (knows a).gone (a.begun - 1) a.place;
   paced = λ cut. paced_first a.port.queue.places (length a.readings) a.place.src a.port (knows a) a.place.row cut h;
   account = account;
@@ -28,14 +29,15 @@ run_none a account h = record {
 
 -- one access more
 pub run_then : {old mid : Acting} (new : Acting) {n : ℕ} → HasRun old mid n → IsSame mid new → new.begun ≡ mid.begun → LeadsOne mid.port mid.readings (mid.begun - 1) mid.place new.place → Added (knows mid) (knows new)
-    → Grows mid.port.queue.places (knows mid).gone (mid.begun - 1) mid.place new.place → IsAccounted new → PacesOne mid.port.queue.places mid.place.row.stage new.place.row.stage mid.place.src new.place.src (knows mid) (knows new)
+    → settled_of mid.place.src (knows mid) ≤ settled_of new.place.src (knows new) → Grows mid.port.queue.places (knows mid).gone (mid.begun - 1) mid.place new.place → IsAccounted new → PacesOne mid.port.queue.places mid.place.row.stage new.place.row.stage mid.place.src new.place.src (knows mid) (knows new)
     → Stands new.port (length new.readings) new.place.src (knows new) new.place.row → HasRun old new (n + 1)
-run_then {old} {mid} new {n} h same begun leads added grows account paces stands = record {
+run_then {old} {mid} new {n} h same begun leads added settles grows account paces stands = record {
   same = record { port = same.port ∙ h.same.port; readings = same.readings ∙ h.same.readings; charges = same.charges ∙ h.same.charges };
   begun = begun ∙ h.begun;
   leads = subst (λ (k : ℕ). Leads old.port old.readings (old.begun - 1) k old.place new.place) (let e : suc n ≡ n + 1 = omega arith in e)
       (mid.place, h.leads, subst (λ (z : Port × List ℕ × ℕ). LeadsOne z.0 z.1 (z.2 - 1) mid.place new.place) (λ j. (h.same.port j, h.same.readings j, h.begun j)) leads);
   added = added_then (knows old) (knows mid) (knows new) h.added added;
+  settles = omega (arith, h.settles, settles);
   grows = grows_then old.port.queue.places (knows old).gone (knows mid).gone (old.begun - 1) old.place mid.place new.place h.added.gone h.grows
       (subst (λ (z : Port × ℕ). Grows z.0.queue.places (knows mid).gone (z.1 - 1) mid.place new.place) (λ j. (h.same.port j, h.begun j)) grows);
   paced = λ cut. paced_then old.port.queue.places n (old.place.src / 2 ^ 32) mid.place.src new.place.src mid.place.row.stage new.place.row.stage (knows mid) (knows new)

@@ -53,7 +53,7 @@ impl SourceActor {
     ghost use Rattle.event_queue.specs.Views.{calls_of, source_told};
     ghost use Rattle.event_queue.specs.Seats.{view, IsSeatOf, IsSameSeat, IsNoteOf, Noted, HearsAsSource};
     ghost use Rattle.irq_source.specs.Acting.{first_place, knows, rebooted, IsAccounted, IsPortOf, IsSame};
-    ghost use Rattle.irq_source.specs.Known.{Added, KnowsItsPlace};
+    ghost use Rattle.irq_source.specs.Known.{Added, KnowsItsPlace, settled_of};
     ghost use Rattle.irq_source.specs.Pace.{SettlesEnough};
     ghost use Rattle.irq_source.specs.Rows.{Grows, Leads, LeadsOne};
     ghost use Rattle.irq_source.specs.kept.Paces.{PacesOne};
@@ -169,6 +169,7 @@ impl SourceActor {
         ensures same { IsSame self.old self.new × (self.new.begun ≡ self.old.begun) }
         ensures leads { LeadsOne self.old.port self.old.readings (self.old.begun - 1) self.old.place self.new.place }
         ensures added { Added (knows self.old) (knows self.new) }
+        ensures settles { settled_of self.old.place.src (knows self.old) ≤ settled_of self.new.place.src (knows self.new) }
         ensures stands { Stands self.new.port (length self.new.readings) self.new.place.src (knows self.new) self.new.place.row }
         ensures paces { PacesOne self.old.port.queue.places self.old.place.row.stage self.new.place.row.stage self.old.place.src self.new.place.src (knows self.old) (knows self.new) }
         ensures grows { Grows self.old.port.queue.places (knows self.old).gone (self.old.begun - 1) self.old.place self.new.place }
@@ -197,6 +198,7 @@ impl SourceActor {
         ensures same { IsSame self.old self.new × (self.new.begun ≡ self.old.begun) }
         ensures leads { Leads self.old.port self.old.readings (self.old.begun - 1) result.steps self.old.place self.new.place }
         ensures added { Added (knows self.old) (knows self.new) }
+        ensures settles { settled_of self.old.place.src (knows self.old) ≤ settled_of self.new.place.src (knows self.new) }
         ensures steps { result.steps ≤ budget }
         ensures settled { result.steps < budget → IsSettled (length self.new.readings) self.new.place.row }
         ensures booted { KnowsItsPlace (phase_of self.new.place.row.stage) self.new.place.row.accepted self.new.place.row.next self.new.place.src (knows self.new) }

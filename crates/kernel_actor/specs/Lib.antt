@@ -4,6 +4,7 @@ pub mod Accounts
 pub mod Rows
 pub mod Books
 pub mod Acting
+pub mod Ends
 pub mod Ticks
 pub mod Looks
 pub mod kept

@@ -10,7 +10,7 @@ loop-steps-init g c = (c.requires.seat, run_none c.args.self.now (subst IsAccoun
 pub loop-steps-preserved : goal.loop-steps-preserved
 loop-steps-preserved g c =
     let run = c.loop-steps.invariant.1 in
-    (c.step.ensures.seat, run_then c.step.new.self run c.step.ensures.same.0 c.step.ensures.same.1 c.step.ensures.leads c.step.ensures.added c.step.ensures.grows c.step.ensures.account c.step.ensures.paces c.step.ensures.stands, omega (arith, c.loop-steps-test.true))
+    (c.step.ensures.seat, run_then c.step.new.self run c.step.ensures.same.0 c.step.ensures.same.1 c.step.ensures.leads c.step.ensures.added c.step.ensures.settles c.step.ensures.grows c.step.ensures.account c.step.ensures.paces c.step.ensures.stands, omega (arith, c.loop-steps-test.true))
 
 pub returns-after-loop-steps-clause-enough : goal.returns-after-loop-steps-clause-enough
 returns-after-loop-steps-clause-enough g c =

@@ -1,6 +1,7 @@
-use Rattle.irq_source.proofs.Common.{◌≡◌, ℕ, ◌-◌, ◌<◌, List, length, sym, ◌∙◌, subst, Point, point_of, take_of, gone_of, view, HasMade, IsLeft, calls_of, tail_in, slice_index}
+use Rattle.irq_source.proofs.Common.{◌≡◌, ℕ, ◌-◌, ◌<◌, ◌≤◌, known, settled_of, List, length, sym, ◌∙◌, subst, Point, point_of, take_of, gone_of, view, HasMade, IsLeft, calls_of, tail_in, slice_index}
 use Rattle.irq_source.specs.Acting.{Acting, knows}
 use Rattle.irq_source.specs.Rows.{Grows, Place, LeadsOne}
+use Rattle.irq_source.proofs.Accounts.{settled_kept}
 use Rattle.irq_source.proofs.Growth.{grows_one}
 use Rattle.irq_source.proofs.Steps.{HasNoted, room_pushed, actor_stepped, actor_accounted}
 use Rattle.irq_source.proofs.actor.SourceActor.step.Goals as goal
@@ -45,6 +46,11 @@ returns-clause-grows c =
     subst (λ (a : Acting). Grows a.port.queue.places (knows a).gone (a.begun - 1) a.place new) c.self.view_is
     (grows_one c.self.inside.pusher.port.queue.places (gone_of (view c.self.inside.seat) c.self.inside.seat.source.0) (c.self.inside.begun - 1) (tail_in c.self.inside.pusher.row.stage) c.self.inside.pusher.row.next
     (slice_index c.self.inside.readings.items c.self.inside.pusher.row.next) _ new (point_of c.self.inside.pusher.port.queue.places c.self.inside.pusher.row.stage c.make_access-word.result) (made c).refuses (noted c).accepted (noted c).refused)
+
+pub returns-clause-settles : goal.returns-clause-settles
+returns-clause-settles c =
+    subst (λ (a : Acting). settled_of a.place.src (knows a) ≤ settled_of c.make_access-word.new.src (known (view c.make_access-word.new.seat) c.make_access-word.new.seat.source.0)) c.self.view_is
+    (settled_kept c.self.inside.pusher.row.stage (made c) c.self.invariant.stands)
 
 pub returns-clause-account : goal.returns-clause-account
 returns-clause-account c = actor_accounted {pusher = c.take-point.new.self} {charges = c.self.inside.charges} (invariant_of-self c)
