@@ -1,0 +1,3 @@
+pub mod Puts
+pub mod Finals
+pub mod Ends
