@@ -1,0 +1,4 @@
+pub mod Numbers
+pub mod Sources
+pub mod Tellings
+pub mod Putting

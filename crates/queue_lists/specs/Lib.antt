@@ -1,0 +1,3 @@
+pub mod Accounts
+pub mod Tellings
+pub mod Puts
