@@ -81,7 +81,7 @@ done_or_memory : (command : Command) (before now : SourceState) (sink sink_now :
     (status ≡ Done) ⊎ (status ≡ NoMemory)
 done_or_memory command before now sink sink_now status None tells needs clean sink_clean = inr (wants_memory command.mode command.flags.seed before now status tells.0 needs clean)
 done_or_memory command before now sink sink_now status (Some made) tells needs clean sink_clean =
-    inl (is_done sink sink_now ((form_of command.mode).text command.flags made) status tells.1 sink_clean)
+    inl (is_done sink sink_now tells.0 status tells.2 sink_clean)
 
 -- so what is told is complete
 pub complete_told : (words : List Word) (before now : SourceState) (sink sink_now : SinkState) (status : Status) (kept : Option Record) →

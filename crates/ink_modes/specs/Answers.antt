@@ -45,7 +45,7 @@ Wrote before now text _ = ⊥
 abbrev pub TellsCommand : Command → (before now : SourceState) → (sink sink_now : SinkState) → Status → Option Record → Type 0
 TellsCommand command before now sink sink_now status None = Stops command.mode command.flags.seed before now status × (sink_now ≡ sink)
 TellsCommand command before now sink sink_now status (Some made) =
-    Makes command before now made × Wrote sink sink_now ((form_of command.mode).text command.flags made) status
+    (text : List ℕ) × Makes command before now made text × Wrote sink sink_now text status
 
 -- Words that are no command do nothing at all.
 abbrev pub DoesNothing : (before now : SourceState) → (sink sink_now : SinkState) → Status → Option Record → Type 0

@@ -33,4 +33,4 @@ pub record ModeForm : Type 1 where
   pub allowed : Allowed
   pub gives : List ℕ → Result Given JobFault → Type 0
   pub makes : Given → Record → Type 0
-  pub text : Flags → Record → List ℕ
+  pub text : Flags → Given → Record → List ℕ

@@ -1,3 +1,4 @@
 -- What only a proof keeps.
 pub mod Asked
+pub mod Fits
 pub mod Script

@@ -11,12 +11,16 @@ use Rattle.ink_modes.specs.modes.Sweep.{sweep}
 use Rattle.ink_modes.specs.modes.Print.{print}
 use Rattle.ink_modes.specs.modes.Audit.{audit}
 use Rattle.ink_modes.specs.modes.Radio.{radio}
+use Rattle.ink_modes.specs.modes.Station.{station}
+use Rattle.ink_modes.specs.modes.Plan.{plan}
 pub mod Run
 pub mod Soak
 pub mod Sweep
 pub mod Print
 pub mod Audit
 pub mod Radio
+pub mod Station
+pub mod Plan
 
 -- what each mode is
 abbrev pub form_of : Mode → ModeForm
@@ -26,7 +30,9 @@ form_of mode.Sweep = sweep
 form_of mode.Print = print
 form_of mode.Audit = audit
 form_of mode.Radio = radio
+form_of mode.Station = station
+form_of mode.Plan = plan
 
 -- the mode whose word this is
 abbrev pub mode_named : Word → Option Mode
-mode_named word = find (λ m. bytes_eq word (form_of m).word) (mode.Run ∷ mode.Soak ∷ mode.Sweep ∷ mode.Print ∷ mode.Audit ∷ mode.Radio ∷ [])
+mode_named word = find (λ m. bytes_eq word (form_of m).word) (mode.Run ∷ mode.Soak ∷ mode.Sweep ∷ mode.Print ∷ mode.Audit ∷ mode.Radio ∷ mode.Station ∷ mode.Plan ∷ [])

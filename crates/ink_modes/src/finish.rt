@@ -2,10 +2,12 @@
 
 use ink_audit::Verdict;
 use ink_base::Status;
+use ink_plan::EnergyPlan;
 use ink_radio::RadioRecord;
 use ink_report::SweepTable;
 use kernel_core::RunRecord;
 use prog_check::Accepted;
+use sqlite_items::Items;
 
 /// What a mode leaves behind.
 #[derive(Drop)]
@@ -20,6 +22,10 @@ pub enum Record {
     Audit(Verdict),
     /// The record of the board that was run, and what a script made of its outputs.
     Radio(RunRecord, RadioRecord),
+    /// The record of each board that was run, in the order of the jobs.
+    Station(Items<RunRecord>),
+    /// The energy plan of the program.
+    Plan(EnergyPlan),
 }
 
 /// The status of a call, and the record of its mode; none where nothing was made of a job.

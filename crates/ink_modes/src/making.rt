@@ -1,11 +1,11 @@
 //! From what a command is given to what it makes.
 
 ghost use Rattle.std.specs.Prelude.{◌≡◌, ◌≤◌, length, Ok, IfOk, IfErr};
-ghost use Rattle.ink_modes.specs.Form.{IsAllowed};
+ghost use Rattle.ink_modes.specs.Form.{FitsSeed, IsAllowed};
 ghost use Rattle.ink_modes.specs.modes.{form_of};
-ghost use Rattle.ink_modes.specs.Given.{IsShort};
 ghost use Rattle.ink_modes.specs.Made.{OfText, Gave, Makes};
 ghost use Rattle.ink_modes.specs.Answers.{StopsText, StopsReading, Stops};
+ghost use Rattle.ink_modes.specs.kept.Fits.{Fits};
 
 use crate::command::Command;
 use crate::finish::Record;
@@ -16,6 +16,7 @@ use ink_base::{JobAnswer, NoMemory, Status};
 use ink_io::{ReadAnswer, Source, read_job};
 use power_trace::soak_job;
 use std::alloc::Global;
+use std::thread::Threads;
 
 /// The record of a command, and its text.
 #[derive(Drop)]
@@ -25,14 +26,18 @@ pub struct Made {
 }
 
 /// What a command makes of what it is given.
-pub fn make<S: Source>(alloc: Global, command: Command, source: &mut S) -> Result<Made, Status>
+pub fn make<R: Threads + Sync, S: Source>(
+    alloc: Global,
+    runtime: &R,
+    command: Command,
+    source: &mut S,
+) -> Result<Made, Status>
     requires { IsAllowed (form_of command.mode).allowed command.flags }
-    ensures record { IfOk result (λ made. Makes command (S.state source.old) (S.state source.new) made.record) }
-    ensures text { IfOk result (λ made. made.text.items ≡ (form_of command.mode).text command.flags made.record) }
+    ensures made { IfOk result (λ made. Makes command (S.state source.old) (S.state source.new) made.record made.text.items) }
     ensures stops { IfErr result (Stops command.mode command.flags.seed (S.state source.old) (S.state source.new)) }
 {
     let given = given_to(alloc, command.mode, command.flags.seed, source)?;
-    match command.mode.make(alloc, command.flags, given) {
+    match command.mode.make(alloc, runtime, command.flags, given) {
         Ok(made) => Ok(made),
         Err(NoMemory) => Err(Status::NoMemory),
     }
@@ -45,15 +50,16 @@ fn given_to<S: Source>(
     seed: Option<u32>,
     source: &mut S,
 ) -> Result<Given, Status>
+    requires { FitsSeed (form_of mode).allowed.seed seed }
     ensures given { IfOk result (Gave mode seed (S.state source.old) (S.state source.new)) }
-    ensures short { IfOk result IsShort }
+    ensures fits { IfOk result (Fits mode) }
     ensures stops { IfErr result (Stops mode seed (S.state source.old) (S.state source.new)) }
 {
     let Some(number) = seed else {
         return given_on(alloc, mode, source);
     };
     match soak_job(alloc, number) {
-        Ok(job) => Ok(Given::alone(alloc, job)),
+        Ok(job) => Ok(Given::Job(job)),
         Err(NoMemory) => Err(Status::NoMemory),
     }
 }
@@ -61,7 +67,7 @@ fn given_to<S: Source>(
 // What the text on the source gives to a mode.
 fn given_on<S: Source>(alloc: Global, mode: Mode, source: &mut S) -> Result<Given, Status>
     ensures given { IfOk result (λ given. OfText (S.state source.old) (S.state source.new) (λ text. (form_of mode).gives text (Ok given))) }
-    ensures short { IfOk result IsShort }
+    ensures fits { IfOk result (Fits mode) }
     ensures stops { IfErr result (StopsReading mode (S.state source.old) (S.state source.new)) }
 {
     match read_job(alloc, source) {
@@ -76,7 +82,7 @@ fn given_on<S: Source>(alloc: Global, mode: Mode, source: &mut S) -> Result<Give
 fn given_in(alloc: Global, mode: Mode, text: &[u8]) -> Result<Given, Status>
     requires { length text.now ≤ TEXT_BYTES }
     ensures given { IfOk result (λ given. (form_of mode).gives text.now (Ok given)) }
-    ensures short { IfOk result IsShort }
+    ensures fits { IfOk result (Fits mode) }
     ensures stops { IfErr result (StopsText mode text.now) }
 {
     match mode.given(alloc, text) {

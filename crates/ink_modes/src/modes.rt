@@ -3,14 +3,16 @@
 ghost use Rattle.std.specs.Prelude.{◌≡◌, ◌≤◌, length, IfOk};
 ghost use Rattle.ink_image.specs.Whole.{Answers};
 ghost use Rattle.ink_modes.specs.Form.{IsAllowed};
-ghost use Rattle.ink_modes.specs.Given.{IsShort};
 ghost use Rattle.ink_modes.specs.modes.{form_of, mode_named};
+ghost use Rattle.ink_modes.specs.kept.Fits.{Fits};
 
 mod audit;
+mod plan;
 mod print;
 mod radio;
 mod run;
 mod soak;
+mod station;
 mod sweep;
 
 use crate::command::Allowed;
@@ -20,6 +22,7 @@ use ink_base::limits::TEXT_BYTES;
 use ink_base::{JobAnswer, NoMemory};
 use ink_report::Flags;
 use std::alloc::Global;
+use std::thread::Threads;
 
 /// What is done with a job.
 #[derive(Clone, Copy, PartialEq, Eq)]
@@ -38,6 +41,10 @@ pub enum Mode {
     /// `radio`: the board of the job on the source is run, the script behind the job is played over its outputs, and what the base has then is
     /// written.
     Radio,
+    /// `station`: the boards of the jobs on the source are run at once, and the text of each run is written.
+    Station,
+    /// `plan`: a bound on what each task of the program of the job on the source may cost is written.
+    Plan,
 }
 
 impl Mode {
@@ -52,6 +59,8 @@ impl Mode {
             "print" => Some(Mode::Print),
             "audit" => Some(Mode::Audit),
             "radio" => Some(Mode::Radio),
+            "station" => Some(Mode::Station),
+            "plan" => Some(Mode::Plan),
             _ => None,
         }
     }
@@ -67,6 +76,8 @@ impl Mode {
             Mode::Print => print::ALLOWED,
             Mode::Audit => audit::ALLOWED,
             Mode::Radio => radio::ALLOWED,
+            Mode::Station => station::ALLOWED,
+            Mode::Plan => plan::ALLOWED,
         }
     }
 
@@ -74,22 +85,30 @@ impl Mode {
     pub fn given(self, alloc: Global, text: &[u8]) -> Result<Given, JobAnswer>
         requires { length text.now ≤ TEXT_BYTES }
         ensures given { Answers ((form_of self).gives text.now) result }
-        ensures short { IfOk result IsShort }
+        ensures fits { IfOk result (Fits self) }
     {
         match self {
             Mode::Run | Mode::Soak | Mode::Print => job_alone(alloc, text),
             Mode::Sweep => sweep::given(alloc, text),
             Mode::Audit => audit::given(alloc, text),
             Mode::Radio => radio::given(alloc, text),
+            Mode::Station => station::given(alloc, text),
+            Mode::Plan => plan::given(alloc, text),
         }
     }
 
     /// What it makes of what it is given, and the text of that.
-    pub fn make(self, alloc: Global, flags: Flags, given: Given) -> Result<Made, NoMemory>
+    pub fn make<R: Threads + Sync>(
+        self,
+        alloc: Global,
+        runtime: &R,
+        flags: Flags,
+        given: Given,
+    ) -> Result<Made, NoMemory>
         requires allowed { IsAllowed (form_of self).allowed flags }
-        requires short { IsShort given }
+        requires fits { Fits self given }
         ensures record { IfOk result (λ made. (form_of self).makes given made.record) }
-        ensures text { IfOk result (λ made. made.text.items ≡ (form_of self).text flags made.record) }
+        ensures text { IfOk result (λ made. made.text.items ≡ (form_of self).text flags given made.record) }
     {
         match self {
             Mode::Run => run::make(alloc, flags, given),
@@ -98,6 +117,8 @@ impl Mode {
             Mode::Print => print::make(alloc, flags, given),
             Mode::Audit => audit::make(alloc, flags, given),
             Mode::Radio => radio::make(alloc, flags, given),
+            Mode::Station => station::make(alloc, runtime, flags, given),
+            Mode::Plan => plan::make(alloc, flags, given),
         }
     }
 }

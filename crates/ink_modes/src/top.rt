@@ -12,6 +12,7 @@ use crate::words::command_of;
 use ink_base::Status;
 use ink_io::{Sink, Source, write_all_text};
 use std::alloc::Global;
+use std::thread::Threads;
 
 /// Does what the words after the program's name say. `run` reads a job from the source, runs its board, and writes the text of the run to
 /// the sink, with what its flags show; `soak` does so for the job that is generated from its number, without the outputs; `sweep` runs the
@@ -24,8 +25,9 @@ use std::alloc::Global;
 /// After all of these nothing was written, and nothing is kept. `Done`: the command's record for its job is kept, and its whole text was
 /// written. `WriteFault`: the same, but a write failed, and a part of the text from its beginning was written. A command is done, unless
 /// memory is refused, where no read or write fails and its source has and tells the text of a job; `soak` needs no source.
-pub fn board<S: Source, K: Sink>(
+pub fn board<R: Threads + Sync, S: Source, K: Sink>(
     alloc: Global,
+    runtime: &R,
     words: &[String],
     source: &mut S,
     sink: &mut K,
@@ -36,7 +38,7 @@ pub fn board<S: Source, K: Sink>(
         (K.state sink.old) (K.state sink.new) result.status }
 {
     match command_of(words) {
-        Some(command) => carry_out(alloc, command, source, sink),
+        Some(command) => carry_out(alloc, runtime, command, source, sink),
         None => stop(Status::Usage),
     }
 }
@@ -48,8 +50,9 @@ fn stop(status: Status) -> Finish
     Finish { status, kept: None }
 }
 
-fn carry_out<S: Source, K: Sink>(
+fn carry_out<R: Threads + Sync, S: Source, K: Sink>(
     alloc: Global,
+    runtime: &R,
     command: Command,
     source: &mut S,
     sink: &mut K,
@@ -58,7 +61,7 @@ fn carry_out<S: Source, K: Sink>(
     ensures { TellsCommand command (S.state source.old) (S.state source.new) (K.state sink.old) (K.state sink.new)
         result.status result.kept }
 {
-    match make(alloc, command, source) {
+    match make(alloc, runtime, command, source) {
         Ok(made) => write_made(sink, made),
         Err(status) => stop(status),
     }

@@ -5,4 +5,5 @@ pub mod Headers
 pub mod Turns
 pub mod Handed
 pub mod Stations
+pub mod Once
 pub mod LinesStay

@@ -1,4 +1,5 @@
 pub mod Parts
 pub mod Jobs
 pub mod Running
+pub mod Once
 pub mod kept

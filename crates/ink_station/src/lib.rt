@@ -7,7 +7,7 @@ mod parts;
 mod reading;
 mod running;
 
-pub use laws::lines_stay;
+pub use laws::{lines_stay, stations_tell};
 pub use reading::read_station;
 pub use running::station;
 

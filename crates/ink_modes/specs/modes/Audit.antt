@@ -13,9 +13,9 @@ use Rattle.ink_audit.specs.declared.verdict.Verdict.{Verdict}
 use Rattle.ink_audit.specs.declared.verdict.Verdict.TheVariants.{Yes, No}
 use Rattle.ink_audit.specs.Verdicts.{IsVerdict}
 use Rattle.ink_modes.specs.declared.given.Given.{Given}
+use Rattle.ink_modes.specs.declared.given.Given.TheVariants.{Claimed}
 use Rattle.ink_modes.specs.declared.finish.Record.{Record}
 use Rattle.ink_modes.specs.declared.finish.Record.TheVariants.{Audit}
-use Rattle.ink_modes.specs.Given.{alone}
 use Rattle.ink_modes.specs.Form.{ModeForm}
 
 -- a claim may follow the charges, or an image
@@ -24,7 +24,7 @@ claim_tails = record image_tails { claim = true }
 
 -- the bytes behind the line `[claim]` are the claim; a text without such a line lacks it
 abbrev pub with_claim : List ℕ → JobParts × Option ℕ → Result Given JobFault
-with_claim text (job, Some at) = Ok (record (alone job) { claim = drop at text })
+with_claim text (job, Some at) = Ok (Claimed job (drop at text))
 with_claim text (job, None) = Err (record { line = length (lines text) + 1; cause = Missing })
 
 -- the job before the claim and the claim, or the first fault, all faults of the job first
@@ -33,8 +33,8 @@ Gives text answer = (before : Result (JobParts × Option ℕ) JobFault) × IsJob
 
 -- the verdict on the claim
 abbrev pub Makes : Given → Record → Type 0
-Makes given (Audit verdict) = IsVerdict given.job given.claim verdict
-Makes given _ = ⊥
+Makes (Claimed job claim) (Audit verdict) = IsVerdict job claim verdict
+Makes _ _ = ⊥
 
 -- whether the claim is right, and where it is wrong
 abbrev pub verdict_text : Verdict → List ℕ
@@ -42,9 +42,9 @@ verdict_text Yes = codes "audit yes\n"
 verdict_text (No line) = codes "audit no " ++ decimal line ++ codes "\n"
 
 -- the line of the verdict
-abbrev pub text : Flags → Record → List ℕ
-text flags (Audit verdict) = verdict_text verdict
-text flags _ = []
+abbrev pub text : Flags → Given → Record → List ℕ
+text flags given (Audit verdict) = verdict_text verdict
+text flags given _ = []
 
 -- it has no flags
 abbrev pub audit : ModeForm

@@ -6,18 +6,19 @@ use Rattle.ink_image.specs.Whole.{IsJobOf}
 use Rattle.ink_modes.specs.declared.finish.Record.{Record}
 use Rattle.ink_modes.specs.declared.finish.Record.TheVariants.{Print}
 use Rattle.ink_modes.specs.declared.given.Given.{Given}
+use Rattle.ink_modes.specs.declared.given.Given.TheVariants.{Job}
 use Rattle.ink_modes.specs.Given.{Alone}
 use Rattle.ink_modes.specs.Form.{ModeForm}
 
 -- the job's program
 abbrev pub Makes : Given → Record → Type 0
-Makes given (Print program) = program ≡ given.job.program
-Makes given _ = ⊥
+Makes (Job job) (Print program) = program ≡ job.program
+Makes _ _ = ⊥
 
 -- its canonical text
-abbrev pub text : Flags → Record → List ℕ
-text flags (Print program) = print_of program
-text flags _ = []
+abbrev pub text : Flags → Given → Record → List ℕ
+text flags given (Print program) = print_of program
+text flags given _ = []
 
 -- it has no flags
 abbrev pub print : ModeForm

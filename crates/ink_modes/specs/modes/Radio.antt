@@ -19,9 +19,9 @@ use Rattle.ink_radio.specs.Script.{script_in}
 use Rattle.ink_radio.specs.Radio.{played, record_of}
 use Rattle.ink_radio.specs.Keeps.{EveryPrefixKeeps}
 use Rattle.ink_modes.specs.declared.given.Given.{Given}
+use Rattle.ink_modes.specs.declared.given.Given.TheVariants.{Scripted}
 use Rattle.ink_modes.specs.declared.finish.Record.{Record}
 use Rattle.ink_modes.specs.declared.finish.Record.TheVariants.{Radio}
-use Rattle.ink_modes.specs.Given.{alone}
 use Rattle.ink_modes.specs.Run.{IsRunOf, state_in}
 use Rattle.ink_modes.specs.Form.{ModeForm}
 
@@ -45,7 +45,7 @@ script_of text = script_in (length (lines text)) (from_radio (with_words (lines_
 
 -- a job with a script
 abbrev pub with_script : JobParts → List RadioEvent → Result Given JobFault
-with_script job script = Ok (record (alone job) { script = script })
+with_script job script = Ok (Scripted job script)
 
 -- the job before the script and the script, or the first fault, all faults of the job first
 abbrev pub Gives : List ℕ → Result Given JobFault → Type 0
@@ -58,20 +58,20 @@ outputs_of r = (state_in r).outputs
 
 -- The record of the job's run, and what the script made of its outputs. After every prefix of the script the base had a beginning of the outputs that had
 -- grown, and the node counted no more as saved than were.
-pub record IsRadioOf (given : Given) (r : RunRecord) (told : RadioRecord) : Type 0 where
-  pub run : IsRunOf given.job r
-  pub played : told ≡ record_of (played (outputs_of r) given.script)
-  pub keeps : EveryPrefixKeeps (outputs_of r) given.script
+pub record IsRadioOf (job : JobParts) (script : List RadioEvent) (r : RunRecord) (told : RadioRecord) : Type 0 where
+  pub run : IsRunOf job r
+  pub played : told ≡ record_of (played (outputs_of r) script)
+  pub keeps : EveryPrefixKeeps (outputs_of r) script
 
 -- both records
 abbrev pub Makes : Given → Record → Type 0
-Makes given (Radio r told) = IsRadioOf given r told
-Makes given _ = ⊥
+Makes (Scripted job script) (Radio r told) = IsRadioOf job script r told
+Makes _ _ = ⊥
 
 -- the outputs that the base has saved, and a line of numbers
-abbrev pub text : Flags → Record → List ℕ
-text flags (Radio r told) = radio_text r.job.program told
-text flags _ = []
+abbrev pub text : Flags → Given → Record → List ℕ
+text flags given (Radio r told) = radio_text r.job.program told
+text flags given _ = []
 
 -- it has no flags
 abbrev pub radio : ModeForm

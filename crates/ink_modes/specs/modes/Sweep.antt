@@ -14,6 +14,7 @@ use Rattle.cut_sweep.specs.Sweep.{IsSweepOf}
 use Rattle.ink_modes.specs.declared.finish.Record.{Record}
 use Rattle.ink_modes.specs.declared.finish.Record.TheVariants.{Sweep}
 use Rattle.ink_modes.specs.declared.given.Given.{Given}
+use Rattle.ink_modes.specs.declared.given.Given.TheVariants.{Job}
 use Rattle.ink_modes.specs.Given.{Alone}
 use Rattle.ink_modes.specs.Form.{ModeForm}
 
@@ -32,13 +33,13 @@ Gives text answer = (whole : Result JobParts JobFault) × IsJobOf text whole × 
 
 -- the table of the job's runs
 abbrev pub Makes : Given → Record → Type 0
-Makes given (Sweep table) = IsSweepOf given.job table
-Makes given _ = ⊥
+Makes (Job job) (Sweep table) = IsSweepOf job table
+Makes _ _ = ⊥
 
 -- a line for each of its rows
-abbrev pub text : Flags → Record → List ℕ
-text flags (Sweep table) = sweep_text table
-text flags _ = []
+abbrev pub text : Flags → Given → Record → List ℕ
+text flags given (Sweep table) = sweep_text table
+text flags given _ = []
 
 -- it has no flags
 abbrev pub sweep : ModeForm

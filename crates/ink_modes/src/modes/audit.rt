@@ -2,7 +2,7 @@
 
 ghost use Rattle.std.specs.Prelude.{◌≡◌, ◌≤◌, length, IfOk};
 ghost use Rattle.ink_image.specs.Whole.{Answers};
-ghost use Rattle.ink_modes.specs.Given.{IsShort};
+ghost use Rattle.ink_modes.specs.Given.{HasClaim};
 ghost use Rattle.ink_modes.specs.modes.Audit.{Gives, Makes, claim_tails, verdict_text};
 ghost use Rattle.ink_modes.specs.modes.Audit.{text as text_of};
 
@@ -29,7 +29,7 @@ pub const ALLOWED: Allowed = Allowed::NONE;
 pub fn given(alloc: Global, text: &[u8]) -> Result<Given, JobAnswer>
     requires { length text.now ≤ TEXT_BYTES }
     ensures given { Answers (Gives text.now) result }
-    ensures short { IfOk result IsShort }
+    ensures claim { IfOk result HasClaim }
 {
     let (job, behind) = job_before(alloc, text, claim_tails())?;
     let Some(at) = behind else {
@@ -39,11 +39,7 @@ pub fn given(alloc: Global, text: &[u8]) -> Result<Given, JobAnswer>
         }));
     };
     let claim = Items::from_slice(alloc, &text[at as usize..])?;
-    Ok(Given {
-        job,
-        claim,
-        script: Items::new(alloc),
-    })
+    Ok(Given::Claimed(job, claim))
 }
 
 // A claim may follow the charges, or an image.
@@ -60,11 +56,12 @@ fn claim_tails() -> Tails
 
 /// The verdict on a claim, and its text.
 pub fn make(alloc: Global, _flags: Flags, given: Given) -> Result<Made, NoMemory>
-    requires { IsShort given }
+    requires { HasClaim given }
     ensures record { IfOk result (λ made. Makes given made.record) }
-    ensures text { IfOk result (λ made. made.text.items ≡ text_of _flags made.record) }
+    ensures text { IfOk result (λ made. made.text.items ≡ text_of _flags given made.record) }
 {
-    let verdict = audit(alloc, &given.job, given.claim.as_slice())?;
+    let (job, claim) = given.into_claimed();
+    let verdict = audit(alloc, &job, claim.as_slice())?;
     let text = verdict_text(alloc, verdict)?;
     Ok(Made {
         record: Record::Audit(verdict),

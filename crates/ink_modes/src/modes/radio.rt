@@ -4,7 +4,7 @@ ghost use Rattle.std.specs.Prelude.{◌≡◌, ◌≤◌, length, IfOk};
 ghost use Rattle.ink_image.specs.Whole.{Answers};
 ghost use Rattle.ink_radio.specs.Keeps.{EveryPrefixKeeps};
 ghost use Rattle.ink_radio.specs.Radio.{played, record_of};
-ghost use Rattle.ink_modes.specs.Given.{IsShort};
+ghost use Rattle.ink_modes.specs.Given.{HasScript};
 ghost use Rattle.ink_modes.specs.Run.{IsRunOf};
 ghost use Rattle.ink_modes.specs.modes.Radio.{Gives, Makes, outputs_of, radio_tails};
 ghost use Rattle.ink_modes.specs.modes.Radio.{text as text_of};
@@ -24,7 +24,6 @@ use ink_radio::{RadioEvent, RadioRecord, radio};
 use ink_report::{Flags, radio_text};
 use kernel_core::RunRecord;
 use power_trace::Tails;
-use sqlite_items::Items;
 use std::alloc::Global;
 
 /// It has no flags.
@@ -35,15 +34,11 @@ pub const ALLOWED: Allowed = Allowed::NONE;
 pub fn given(alloc: Global, text: &[u8]) -> Result<Given, JobAnswer>
     requires { length text.now ≤ TEXT_BYTES }
     ensures given { Answers (Gives text.now) result }
-    ensures short { IfOk result IsShort }
+    ensures script { IfOk result HasScript }
 {
     let (job, _behind) = job_before(alloc, text, radio_tails())?;
     let script = script_in(alloc, text)?;
-    Ok(Given {
-        job,
-        claim: Items::new(alloc),
-        script,
-    })
+    Ok(Given::Scripted(job, script))
 }
 
 // A script may follow the charges, or an image.
@@ -60,15 +55,11 @@ fn radio_tails() -> Tails
 
 /// The record of the run of a job with what the script made of its outputs, and the text of that.
 pub fn make(alloc: Global, _flags: Flags, given: Given) -> Result<Made, NoMemory>
-    requires { IsShort given }
+    requires { HasScript given }
     ensures record { IfOk result (λ made. Makes given made.record) }
-    ensures text { IfOk result (λ made. made.text.items ≡ text_of _flags made.record) }
+    ensures text { IfOk result (λ made. made.text.items ≡ text_of _flags given made.record) }
 {
-    let Given {
-        job,
-        claim: _,
-        script,
-    } = given;
+    let (job, script) = given.into_scripted();
     let run = record_of(alloc, job)?;
     let told = told_of(alloc, &run, script.as_slice())?;
     let text = radio_text(alloc, run.job.accepted().program(), &told)?;

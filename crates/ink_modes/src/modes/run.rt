@@ -1,6 +1,7 @@
 //! `run`: the board of the job is run, and the text of the run is written, with the image that it leaves where that is asked for.
 
 ghost use Rattle.std.specs.Prelude.{◌≡◌, ◌++◌, IfOk, OnOk};
+ghost use Rattle.ink_modes.specs.Given.{IsAlone};
 ghost use Rattle.ink_modes.specs.Run.{IsRunOf};
 ghost use Rattle.ink_modes.specs.modes.Run.{Makes, image_part, text};
 
@@ -27,10 +28,11 @@ pub const ALLOWED: Allowed = Allowed {
 
 /// The record of the whole run of a job, and its text.
 pub fn make(alloc: Global, flags: Flags, given: Given) -> Result<Made, NoMemory>
+    requires { IsAlone given }
     ensures record { IfOk result (λ made. Makes given made.record) }
-    ensures text { IfOk result (λ made. made.text.items ≡ text flags made.record) }
+    ensures text { IfOk result (λ made. made.text.items ≡ text flags given made.record) }
 {
-    let record = record_of(alloc, given.job)?;
+    let record = record_of(alloc, given.into_job())?;
     let mut text = report(alloc, &record, flags)?;
     put_image(alloc, &mut text, &record, flags)?;
     Ok(Made {

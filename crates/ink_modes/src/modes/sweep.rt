@@ -4,7 +4,7 @@
 ghost use Rattle.std.specs.Prelude.{◌≡◌, ◌≤◌, length, IfOk};
 ghost use Rattle.ink_base.specs.Gives.{GivesJob};
 ghost use Rattle.ink_image.specs.Whole.{Answers};
-ghost use Rattle.ink_modes.specs.Given.{Alone, IsShort};
+ghost use Rattle.ink_modes.specs.Given.{Alone, IsAlone};
 ghost use Rattle.ink_modes.specs.modes.Sweep.{Gives, Makes, past_at};
 ghost use Rattle.ink_modes.specs.modes.Sweep.{text as text_of};
 
@@ -23,14 +23,14 @@ use std::alloc::Global;
 /// It has no flags.
 pub const ALLOWED: Allowed = Allowed::NONE;
 
-/// The job of a text, alone, or the fault with which a sweep refuses the text.
+/// The job of a text, or the fault with which a sweep refuses the text.
 pub fn given(alloc: Global, text: &[u8]) -> Result<Given, JobAnswer>
     requires { length text.now ≤ TEXT_BYTES }
     ensures given { Answers (Alone (Gives text.now)) result }
-    ensures short { IfOk result IsShort }
+    ensures alone { IfOk result IsAlone }
 {
     match job_of(alloc, text) {
-        Ok(job) => Ok(Given::alone(alloc, job)),
+        Ok(job) => Ok(Given::Job(job)),
         Err(answer) => Err(answer),
     }
 }
@@ -69,10 +69,11 @@ fn past_in(alloc: Global, text: &[u8]) -> Result<Option<u32>, JobAnswer>
 
 /// The table of the runs of a job, and its text.
 pub fn make(alloc: Global, _flags: Flags, given: Given) -> Result<Made, NoMemory>
+    requires { IsAlone given }
     ensures record { IfOk result (λ made. Makes given made.record) }
-    ensures text { IfOk result (λ made. made.text.items ≡ text_of _flags made.record) }
+    ensures text { IfOk result (λ made. made.text.items ≡ text_of _flags given made.record) }
 {
-    let table = sweep(alloc, &given.job)?;
+    let table = sweep(alloc, &given.into_job())?;
     let text = sweep_text(alloc, &table)?;
     Ok(Made {
         record: Record::Sweep(table),

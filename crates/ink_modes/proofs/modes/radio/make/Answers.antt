@@ -4,6 +4,9 @@ use Rattle.ink_radio.specs.declared.event.RadioEvent.{RadioEvent}
 use Rattle.ink_radio.specs.declared.record.RadioRecord.{RadioRecord}
 use Rattle.ink_radio.specs.Keeps.{EveryPrefixKeeps}
 use Rattle.ink_radio.specs.Radio.{played, record_of}
+use Rattle.ink_modes.specs.declared.given.Given.{Given}
+use Rattle.ink_modes.specs.declared.finish.Record.TheVariants.{Radio}
+use Rattle.ink_modes.specs.modes.Radio.{Makes}
 use Rattle.ink_modes.proofs.Saved.{all_saved}
 use Rattle.ink_modes.proofs.Tellable.{tellable}
 use Rattle.ink_modes.proofs.modes.radio.make.Goals as goal
@@ -20,8 +23,8 @@ radio_text-requires c =
 pub returns-clause-record : goal.returns-clause-record
 returns-clause-record c =
     let r = c.in_ok-run.run' in
-    record {
+    subst (λ (g : Given). Makes g (Radio r c.in_ok-told.told)) (sym c.into_scripted.ensures.is) (record {
       run = c.in_ok-run.ensures;
       played = c.in_ok-told.ensures.told ∙ ap (λ (s : List RadioEvent). record_of (played (state_in r).outputs s)) c.as_slice.ensures;
       keeps = subst (λ (s : List RadioEvent). EveryPrefixKeeps (state_in r).outputs s) c.as_slice.ensures c.in_ok-told.ensures.keeps;
-    }
+    })
