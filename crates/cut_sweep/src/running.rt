@@ -58,8 +58,9 @@ fn run_item(core: &mut Core, item: Item, left: u32) -> u32
     ensures left { result ≡ left - item.count }
 {
     let turns = left.min(item.count);
-    for _turn in 0..turns {
-        core.step(item.actor);
-    }
+    core.run_item(Item {
+        actor: item.actor,
+        count: turns,
+    });
     left - turns
 }

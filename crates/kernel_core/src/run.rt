@@ -44,18 +44,23 @@ impl Core {
         }
     }
 
-    fn run_item(&mut self, item: Item)
+    /// As many turns of the item's actor as the item counts, one after another; of each one what `step` tells holds. The room for turns
+    /// shrinks by at most so many.
+    pub fn run_item(&mut self, item: Item)
         requires known { IsActor (setup_of self.old.job) item.actor }
         requires begun { 0 < self.old.board.begun }
         requires room { item.count ≤ self.old.room }
         ensures board { self.new.board ≡ moved_by (setup_of self.old.job) self.old.board (turns_of item) }
+        ensures stands { BoardStands (setup_of self.new.job) self.new.board }
         ensures begun { self.new.board.begun ≡ self.old.board.begun }
         ensures job { self.new.job ≡ self.old.job }
         ensures room { self.old.room ≤ self.new.room + item.count }
+        ensures settled { ChargesSettle self.new.job.program self.new.board.charges }
     {
         for _turn in 0..item.count {
             self.step(item.actor);
         }
+        self.stands();
     }
 
     // The ticks that the board is dark before a charge.
