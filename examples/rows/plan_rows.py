@@ -77,7 +77,7 @@ def rows_of_refusals():
     end, name = SUM_OF_7.count("\n") + 1, "a_plan_ends_with_the_charges"
     for header in ("[image1]", "[image2]", "[image2] x", "[claim]", "[radio]", "[board]", "[power]", "["):
         yield refused(f"{name} {header}", f"{SUM_OF_7}{header}\n", end, "BadSection")
-    yield refused(f"{name}, not with a right image", JOBS_WITH_IMAGES["of a sum"], SUM_OF_7.count("\n") + 1, "BadSection")
+    yield refused(f"{name}, not with a right image", JOBS_WITH_IMAGES["of a sum"], end, "BadSection")
     yield refused(f"{name}, and not before", SUM_OF_7.replace("charge", "[image2]\ncharge"), end - 1, "BadSection")
     yield refused("a_plan_is_of_one_job", station(SUM_OF_7), 1, "BadSection")
     yield refused("a_plan_is_of_a_job", "", 1, "Missing")
