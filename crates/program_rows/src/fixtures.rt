@@ -2,9 +2,10 @@
 
 ghost use Rattle.std.specs.Prelude.{◌≤◌};
 
-use ink_io::{MemSource, Sink, Source};
+use ink_io::{MemSink, MemSource, NoMemory, Sink, Source};
 use ink_modes::{Finish, board};
 use std::alloc::{AllocError, Global};
+use std::thread::Threads;
 
 /// A job of one thread that puts out the sum of its readings. It has 193 bytes.
 pub(crate) const FIRST_JOB: &str =
@@ -22,6 +23,9 @@ pub(crate) fn words_of(alloc: Global, words: &[&str]) -> Result<Vec<String>, All
     Ok(all)
 }
 
+/// No call of a source or a sink has this number.
+pub(crate) const NEVER: u64 = 0;
+
 /// A source of a job that gives so many bytes at a call, and whose call of this number fails.
 pub(crate) fn source_of(
     alloc: Global,
@@ -36,13 +40,22 @@ pub(crate) fn source_of(
     Ok(MemSource::new(bytes, chunk, fail_at))
 }
 
+/// A sink with the room for what a few runs print, that takes so many bytes at a call, and whose call of this number fails.
+pub(crate) fn sink_of(alloc: Global, chunk: usize, call: u64) -> Result<MemSink, NoMemory>
+    requires { 1 ≤ chunk }
+{
+    let fail_at = [call].to_vec(alloc)?;
+    MemSink::new(alloc, 2000, chunk, fail_at)
+}
+
 /// How a call whose one word is a mode ends.
-pub(crate) fn called<S: Source, K: Sink>(
+pub(crate) fn called<R: Threads + Sync, S: Source, K: Sink>(
     alloc: Global,
+    runtime: &R,
     mode: &str,
     source: &mut S,
     sink: &mut K,
 ) -> Result<Finish, AllocError> {
     let words = words_of(alloc, &[mode])?;
-    Ok(board(alloc, words.as_slice(), source, sink))
+    Ok(board(alloc, runtime, words.as_slice(), source, sink))
 }

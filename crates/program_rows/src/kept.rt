@@ -1,6 +1,6 @@
 //! What a call keeps.
 
-use crate::fixtures::{FIRST_JOB, called, source_of};
+use crate::fixtures::{FIRST_JOB, NEVER, called, source_of};
 use ink_audit::Verdict;
 use ink_io::SureSink;
 use ink_modes::Record;
@@ -8,20 +8,24 @@ use ink_radio::RadioRecord;
 use kernel_core::{ChargeRecord, RunRecord};
 use std::alloc::{AllocError, Global};
 use std::test::Fail;
+use std::thread::Threads;
 
 // The three readings of the full queue.
 const FULL_QUEUE: &str =
     "[program]\nthread a priority 1 queue 2 state 1 log 8\nsource a\ntask sum thread a limit 100\nli r1 0\nld r2 r1\nev r3\nadd r2 r2 r3\nst r2 r1\nout r2\ndone\nend\n[sensors]\nS0 7 8 9\n[power]\ncharge 0 S0*20\n";
 
 // What is kept of a mode for a job; a read of it fails at this call.
-fn kept_of(alloc: Global, mode: &str, job: &str, call: u64) -> Result<Option<Record>, AllocError> {
+fn kept_of<R: Threads + Sync>(
+    alloc: Global,
+    runtime: &R,
+    mode: &str,
+    job: &str,
+    call: u64,
+) -> Result<Option<Record>, AllocError> {
     let mut source = source_of(alloc, job, 100, call)?;
-    let finish = called(alloc, mode, &mut source, &mut SureSink::new())?;
+    let finish = called(alloc, runtime, mode, &mut source, &mut SureSink::new())?;
     Ok(finish.kept)
 }
-
-// No call has this number.
-const NEVER: u64 = 0;
 
 fn has_steps(charge: &ChargeRecord, kernel: u32, source: u32) -> bool {
     charge.kernel_steps == kernel
@@ -37,8 +41,14 @@ fn has_one_charge(record: &RunRecord, kernel: u32, source: u32) -> bool {
     }
 }
 
-fn keeps_charge(alloc: Global, job: &str, kernel: u32, source: u32) -> Result<bool, AllocError> {
-    match &kept_of(alloc, "run", job, NEVER)? {
+fn keeps_charge<R: Threads + Sync>(
+    alloc: Global,
+    runtime: &R,
+    job: &str,
+    kernel: u32,
+    source: u32,
+) -> Result<bool, AllocError> {
+    match &kept_of(alloc, runtime, "run", job, NEVER)? {
         Some(Record::Run(record)) => Ok(has_one_charge(record, kernel, source)),
         _ => Ok(false),
     }
@@ -46,7 +56,7 @@ fn keeps_charge(alloc: Global, job: &str, kernel: u32, source: u32) -> Result<bo
 
 #[test]
 fn a_reading_is_pushed_served_and_released(rt: HostRuntime) -> Result<(), Fail> {
-    assert!(rt; keeps_charge(rt.alloc(), FIRST_JOB, 200, 9)?);
+    assert!(rt; keeps_charge(rt.alloc(), &rt, FIRST_JOB, 200, 9)?);
     Ok(())
 }
 
@@ -60,8 +70,12 @@ const SHARED: [u64; 6] = [
     0x0000000300000002,
 ];
 
-fn keeps_shared_words(alloc: Global, job: &str) -> Result<bool, AllocError> {
-    match &kept_of(alloc, "run", job, NEVER)? {
+fn keeps_shared_words<R: Threads + Sync>(
+    alloc: Global,
+    runtime: &R,
+    job: &str,
+) -> Result<bool, AllocError> {
+    match &kept_of(alloc, runtime, "run", job, NEVER)? {
         Some(Record::Run(record)) => Ok(record.words.as_slice().ends_with(&SHARED)),
         _ => Ok(false),
     }
@@ -69,19 +83,19 @@ fn keeps_shared_words(alloc: Global, job: &str) -> Result<bool, AllocError> {
 
 #[test]
 fn a_full_queue_refuses_a_reading(rt: HostRuntime) -> Result<(), Fail> {
-    assert!(rt; keeps_charge(rt.alloc(), FULL_QUEUE, 0, 17)?);
-    assert!(rt; keeps_shared_words(rt.alloc(), FULL_QUEUE)?);
+    assert!(rt; keeps_charge(rt.alloc(), &rt, FULL_QUEUE, 0, 17)?);
+    assert!(rt; keeps_shared_words(rt.alloc(), &rt, FULL_QUEUE)?);
     Ok(())
 }
 
-fn keeps_program(alloc: Global) -> Result<bool, AllocError> {
-    let kept = kept_of(alloc, "print", FIRST_JOB, NEVER)?;
+fn keeps_program<R: Threads + Sync>(alloc: Global, runtime: &R) -> Result<bool, AllocError> {
+    let kept = kept_of(alloc, runtime, "print", FIRST_JOB, NEVER)?;
     Ok(matches!(&kept, Some(Record::Print(_))))
 }
 
 #[test]
 fn a_program_that_was_printed_is_kept(rt: HostRuntime) -> Result<(), Fail> {
-    assert!(rt; keeps_program(rt.alloc())?);
+    assert!(rt; keeps_program(rt.alloc(), &rt)?);
     Ok(())
 }
 
@@ -93,9 +107,14 @@ const RIGHT_CLAIM: &str =
 const CLAIM_WITHOUT_PUSH: &str =
     "[claim]\n1 a 7\nthread a served 1 trapped 0 expired 0 held 0\nsource S0 next 1 pushed 1 refused 0\nclock 0 commits 1 charges 1\n[journal]\nTick 0\nScan\nCommit a\nRelease a\n";
 
-fn keeps_verdict(alloc: Global, claim: &str, verdict: Verdict) -> Result<bool, AllocError> {
+fn keeps_verdict<R: Threads + Sync>(
+    alloc: Global,
+    runtime: &R,
+    claim: &str,
+    verdict: Verdict,
+) -> Result<bool, AllocError> {
     let text = format!(in alloc; "{FIRST_JOB}{claim}")?;
-    match kept_of(alloc, "audit", text.as_str(), NEVER)? {
+    match kept_of(alloc, runtime, "audit", text.as_str(), NEVER)? {
         Some(Record::Audit(kept)) => Ok(kept == verdict),
         _ => Ok(false),
     }
@@ -103,8 +122,8 @@ fn keeps_verdict(alloc: Global, claim: &str, verdict: Verdict) -> Result<bool, A
 
 #[test]
 fn the_verdict_on_a_claim_is_kept(rt: HostRuntime) -> Result<(), Fail> {
-    assert!(rt; keeps_verdict(rt.alloc(), RIGHT_CLAIM, Verdict::Yes)?);
-    assert!(rt; keeps_verdict(rt.alloc(), CLAIM_WITHOUT_PUSH, Verdict::No { line: 8 })?);
+    assert!(rt; keeps_verdict(rt.alloc(), &rt, RIGHT_CLAIM, Verdict::Yes)?);
+    assert!(rt; keeps_verdict(rt.alloc(), &rt, CLAIM_WITHOUT_PUSH, Verdict::No { line: 8 })?);
     Ok(())
 }
 
@@ -118,9 +137,14 @@ fn has_saved(told: &RadioRecord, value: u32) -> bool {
     }
 }
 
-fn keeps_saved(alloc: Global, script: &str, value: u32) -> Result<bool, AllocError> {
+fn keeps_saved<R: Threads + Sync>(
+    alloc: Global,
+    runtime: &R,
+    script: &str,
+    value: u32,
+) -> Result<bool, AllocError> {
     let text = format!(in alloc; "{FIRST_JOB}{script}")?;
-    match &kept_of(alloc, "radio", text.as_str(), NEVER)? {
+    match &kept_of(alloc, runtime, "radio", text.as_str(), NEVER)? {
         Some(Record::Radio(run, told)) => {
             Ok(has_one_charge(run, 200, 9) && has_saved(told, value))
         }
@@ -130,20 +154,26 @@ fn keeps_saved(alloc: Global, script: &str, value: u32) -> Result<bool, AllocErr
 
 #[test]
 fn what_a_base_has_is_kept_beside_the_run(rt: HostRuntime) -> Result<(), Fail> {
-    assert!(rt; keeps_saved(rt.alloc(), SCRIPT, 7)?);
+    assert!(rt; keeps_saved(rt.alloc(), &rt, SCRIPT, 7)?);
     Ok(())
 }
 
-fn keeps_nothing(alloc: Global, mode: &str, job: &str, call: u64) -> Result<bool, AllocError> {
-    let kept = kept_of(alloc, mode, job, call)?;
+fn keeps_nothing<R: Threads + Sync>(
+    alloc: Global,
+    runtime: &R,
+    mode: &str,
+    job: &str,
+    call: u64,
+) -> Result<bool, AllocError> {
+    let kept = kept_of(alloc, runtime, mode, job, call)?;
     Ok(kept.is_none())
 }
 
 #[test]
 fn nothing_is_kept_of_a_job_that_is_not_read_or_refused(rt: HostRuntime) -> Result<(), Fail> {
-    assert!(rt; keeps_nothing(rt.alloc(), "run", FIRST_JOB, 2)?);
-    assert!(rt; keeps_nothing(rt.alloc(), "run", "[program]\n", NEVER)?);
-    assert!(rt; keeps_nothing(rt.alloc(), "audit", FIRST_JOB, NEVER)?);
-    assert!(rt; keeps_nothing(rt.alloc(), "radio", FIRST_JOB, NEVER)?);
+    assert!(rt; keeps_nothing(rt.alloc(), &rt, "run", FIRST_JOB, 2)?);
+    assert!(rt; keeps_nothing(rt.alloc(), &rt, "run", "[program]\n", NEVER)?);
+    assert!(rt; keeps_nothing(rt.alloc(), &rt, "audit", FIRST_JOB, NEVER)?);
+    assert!(rt; keeps_nothing(rt.alloc(), &rt, "radio", FIRST_JOB, NEVER)?);
     Ok(())
 }

@@ -8,4 +8,6 @@ mod fixtures;
 #[cfg(test)]
 mod kept;
 #[cfg(test)]
+mod told;
+#[cfg(test)]
 mod words;
