@@ -11,28 +11,17 @@ from plain.job import read_job
 from plain.told import image_text
 from plain.words import OUTPUTS, STAMP, Places, first_words
 
+from kinds import KINDS, ONE, readings, task, text_of, thread
+
 folder = sys.argv[1]
 TURNS = 4194304  # the most that a job may list
 SWEEP = 8192  # the most of one that is swept
 BYTES = 4194304  # the longest text of a job
 CHARGES = 4096
-STATE = "li r1 0\nld r2 r1\nev r3\nadd r2 r2 r3\nst r2 r1\nout r2\ndone\nend\n"
-
-
-def thread(name, priority, places=2, log=8):
-    return f"thread {name} priority {priority} queue {places} state 1 log {log}\n"
-
-
-def task(name, owner, code=STATE, limit=100):
-    return f"task {name} thread {owner} limit {limit}\n{code}"
-
-
-def readings(source, number):
-    return f"S{source} " + " ".join(["7"] * number) + "\n"
 
 
 def job(name, program, sensors, power, image=""):
-    text = f"[program]\n{program}[sensors]\n{sensors}[power]\n{power}{image}"
+    text = text_of(program, sensors, power, image)
     assert len(text) <= BYTES, name
     with open(f"{folder}/{name}.job", "w") as out:
         out.write(text)
@@ -45,23 +34,8 @@ def job(name, program, sensors, power, image=""):
 
 
 names = []
-one = thread("a", 1) + "source a\n" + task("sum", "a")
-
-# One thread whose queue stays empty after its first event.
-job("idle", one, readings(0, 1), f"charge 0 S0*9 K*{TURNS - 9}\n")
-
-# An event a service, over and over.
-rounds = (TURNS - 4) // 78
-job("busy", one, readings(0, rounds + 1), "charge 0 S0*4" + " S0*5 K*73" * rounds + "\n")
-
-# Long tasks of plain arithmetic.
-code = "li r2 1\n" + "add r3 r3 r2\n" * 4000 + "done\nend\n"
-rounds = (TURNS - 4) // 4105
-job("compute", thread("a", 1) + "source a\n" + task("count", "a", code, 4096), readings(0, rounds + 1), "charge 0 S0*4" + " S0*5 K*4100" * rounds + "\n")
-
-# Sixteen idle threads, each with a queue of 32 places.
-many = "".join(thread(f"t{n}", n, 32) for n in range(16)) + "".join(task(f"k{n}", f"t{n}") for n in range(16))
-job("threads", many, "", f"charge 0 K*{TURNS}\n")
+for name, kind in KINDS.items():
+    job(name, *kind(TURNS))
 
 # Sixteen sources with as many readings as the text has room for, on two queues of 32 places.
 fed = thread("a", 1, 32) + thread("b", 2, 32) + "source a\nsource b\n" * 8 + task("sum", "a") + task("add", "b")
@@ -73,10 +47,10 @@ job("sources", fed, "".join(readings(n, min(65535, room)) for n in range(16)), p
 
 # As many charges as a job may have, each cut in the middle of a service.
 each = TURNS // CHARGES
-job("charges", one, readings(0, 65535), f"charge 1 S0*40 T*1 K*{each - 41}\n" * CHARGES)
+job("charges", ONE, readings(0, 65535), f"charge 1 S0*40 T*1 K*{each - 41}\n" * CHARGES)
 
 # A sweep of as many turns as one may have, all of them in the first charge: no turn of it is made in the first run, one in the second, and so on.
-job("sweep", one, readings(0, 1), f"charge 0 S0*9 K*{SWEEP - 9}\n")
+job("sweep", ONE, readings(0, 1), f"charge 0 S0*9 K*{SWEEP - 9}\n")
 names[-1] = f"sweep {SWEEP * (SWEEP + 1) // 2} sweep"
 
 # A hostile text: as many labels in one task as it has room for, with names as short as they can be, and jumps to the last ones.

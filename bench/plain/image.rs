@@ -81,6 +81,12 @@ pub fn read_start(lines: &mut Lines, form: Form, program: &Program, readings: &m
     Ok(words)
 }
 
+/// Whether words are an image of the program.
+#[allow(dead_code)] // costs.rs alone asks for it
+pub fn stands(program: &Program, layout: &Layout, words: &[u64]) -> bool {
+    Image { form: Form::Today, program, layout, words }.check().is_ok()
+}
+
 fn read_words(lines: &mut Lines) -> Result<(Vec<u64>, Vec<usize>), Fault> {
     let (mut words, mut line_of) = (Vec::new(), Vec::new());
     let mut bad = None;

@@ -169,6 +169,18 @@ impl Kernel {
         }
     }
 
+    /// From the pick of an event to the commit of its service the task that the thread at hand begins or goes on with.
+    #[allow(dead_code)] // costs.rs alone asks for it
+    pub fn served_task(&self, plan: &Plan) -> Option<usize> {
+        use Access::*;
+        match self.next_access {
+            BootCommit | BootStamp | BootFinished | BootSlot | BootAcknowledge | BootRelease => None,
+            Clock | Commit | NextTask | Finished | Origin | Value | Began | Slot => None,
+            PipeTaken | PipeCommit | PipeWritten | PipeItem | TimerDue | Acknowledge | Release => None,
+            _ => Some(self.chain.unwrap_or(plan.owners[self.thread].first_task)),
+        }
+    }
+
     /// Makes the next access.
     pub fn turn(&mut self, plan: &Plan, words: &mut [u64], journal: &mut Vec<Entry>) {
         let layout = plan.layout;
