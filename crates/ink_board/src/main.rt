@@ -26,7 +26,14 @@ fn run_command<R: Threads + Sync>(rt: &HostRuntime, threads: &R) -> Status {
     };
     let mut source = StdSource::new(rt.reader());
     let mut sink = StdSink::new(io::writer(rt));
-    board(rt.alloc(), threads, words.as_slice(), &mut source, &mut sink).status
+    board(
+        rt.alloc(),
+        threads,
+        words.as_slice(),
+        &mut source,
+        &mut sink,
+    )
+    .status
 }
 
 // The words after the program's name. One that is no text is in no command.

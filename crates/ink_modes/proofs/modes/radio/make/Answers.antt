@@ -23,7 +23,7 @@ radio_text-requires c =
 pub returns-clause-record : goal.returns-clause-record
 returns-clause-record c =
     let r = c.in_ok-run.run' in
-    subst (λ (g : Given). Makes g (Radio r c.in_ok-told.told)) (sym c.into_scripted.ensures.is) (record {
+    subst (λ (g : Given). Makes g (Radio r c.in_ok-told.told)) (sym c.into_scripted-job.ensures.is) (record {
       run = c.in_ok-run.ensures;
       played = c.in_ok-told.ensures.told ∙ ap (λ (s : List RadioEvent). record_of (played (state_in r).outputs s)) c.as_slice.ensures;
       keeps = subst (λ (s : List RadioEvent). EveryPrefixKeeps (state_in r).outputs s) c.as_slice.ensures c.in_ok-told.ensures.keeps;
