@@ -1,12 +1,12 @@
 -- Each access keeps the account of the readings.
-use Rattle.irq_source.proofs.Common.{◌≡◌, inl, inr, ℕ, ◌+◌, ◌/◌, ◌%◌, ◌^◌, ◌<◌, ◌≤◌, ◌==◌, max, cond, Bool, true, false, List, [], ◌∷◌, ◌++◌, length, slice_index, refl, sym, ap, ◌∙◌, subst, arith, append-nil, some, get_elem?, snoc_cases, Port, Stage, Point, Option, Some, None, Slot, empty_word, slot_in, row_at, is_full_at, point_of, after_slot, SourceSeat, QueueSet, Won, won, Knows, mine_of, next_of, calls_of, view, known, settled_of, places_of, queue_of, out_of, below, ◌&&◌, ◌||◌, nat_lt, shows_own, take_of, Added, SrcKept, Stands, IsInSrc, HasMade, accepts, declines, tail_in}
+use Rattle.irq_source.proofs.Common.{◌≡◌, inl, inr, ℕ, ◌+◌, ◌/◌, ◌%◌, ◌^◌, ◌<◌, ◌≤◌, ◌==◌, max, cond, Bool, true, false, List, [], ◌∷◌, ◌++◌, length, slice_index, refl, sym, ap, ◌∙◌, subst, arith, cases_eq, append-nil, some, get_elem?, snoc_cases, Port, Stage, Point, Option, Some, None, Slot, empty_word, slot_in, row_at, is_full_at, point_of, after_slot, SourceSeat, QueueSet, Won, won, Knows, mine_of, next_of, calls_of, view, known, settled_of, places_of, queue_of, out_of, below, ◌&&◌, ◌||◌, nat_lt, shows_own, take_of, Added, SrcKept, Stands, IsInSrc, HasMade, accepts, declines, tail_in}
 use Rattle.push_core.specs.declared.stage.Stage.TheVariants as stages
 use Rattle.push_core.specs.declared.point.Point.TheVariants as points
 use Rattle.push_core.specs.declared.slot.Slot.TheVariants as slots
 use Rattle.std.proofs.lemmas.List.{map-append}
 use Rattle.irq_source.specs.declared.lists.Published.{Published}
 use Rattle.irq_source.specs.declared.lists.Declined.{Declined}
-use Rattle.irq_source.specs.Account.{publication, IsRefused, IsPublished, IsDeclined, Parted, Accounts}
+use Rattle.irq_source.specs.Account.{publication, IsRefused, IsPublished, IsDeclined, IsWithin, Parted, Accounts}
 use Rattle.irq_source.specs.kept.Actors.{SkipKept}
 use Rattle.irq_source.proofs.Slots.{tail_published}
 use Rattle.irq_source.proofs.Basics.{at_longer, at_last, at_map, cases_less}
@@ -155,8 +155,8 @@ unchanged : {readings : List ℕ} {places begun src : ℕ} {s : Knows} {accepted
 unchanged {readings} {places} {begun} {src} {s} {accepted} {refused} h = subst (λ (z : List Published × List Declined). Accounts readings places begun src s z.0 z.1) (sym (λ j. (append-nil accepted j, append-nil refused j))) h
 
 -- SRC and the publications stay
-same_settled : {src src' : ℕ} {s s' : Knows} → src' ≡ src → s'.next ≡ s.next → settled_of src s ≤ settled_of src' s'
-same_settled {src} {src'} {s} {s'} same next = let now : settled_of src' s' ≡ settled_of src s = λ j. max (same j / 2 ^ 32) (next j) in omega (arith, now)
+same_settled : (src src' : ℕ) (s s' : Knows) → src' ≡ src → s'.next ≡ s.next → settled_of src s ≤ settled_of src' s'
+same_settled src src' s s' same next = let now : settled_of src' s' ≡ settled_of src s = λ j. max (same j / 2 ^ 32) (next j) in omega (arith, now)
 
 -- nor to the publications
 quiet : {readings : List ℕ} {places begun src : ℕ} {s : Knows} {accepted : List Published} {refused : List Declined} (src' : ℕ) (s' : Knows) → Accounts readings places begun src s accepted refused → src' ≡ src → s'.mine ≡ s.mine → s'.next ≡ s.next → Added s s'
@@ -218,13 +218,14 @@ module _ {set : QueueSet} {port : Port} {readings : List ℕ} {a k src begun cha
       let now = settled_here (length readings) src' (a + 1) (k + 1) (known (view new) new.source.0) made.stands.at.0 made.stands.src_kept made.stands.at.1 in
       unchanged (account_goes_on begun src' (known (view new) new.source.0) (omega arith) (ap mine_of made.found.1) (now ∙ sym was) made.added.out h)
 
-  -- and no access settles a reading less
+module _ {set : QueueSet} {port : Port} {readings : List ℕ} {a k src : ℕ} {old new : SourceSeat} {word src' : ℕ} where
+  -- no access settles a reading less
   pub settled_kept : (st : Stage) → HasMade set port readings (row_at a k st) src old new word src' → Stands port (length readings) src (known (view old) old.source.0) (row_at a k st) → settled_of src (known (view old) old.source.0) ≤ settled_of src' (known (view new) new.source.0)
-  settled_kept stages.LoadSrc made stands = same_settled made.found.1 (ap next_of made.found.2)
-  settled_kept (stages.LoadSlots n seen) made stands = same_settled made.found.0 (ap next_of made.found.1)
-  settled_kept (stages.LoadAck seen) made stands = same_settled made.found.0 (ap next_of made.found.1)
-  settled_kept stages.LoadTail made stands = same_settled made.found.0 (ap next_of made.found.1)
-  settled_kept (stages.LoadSlot p) made stands = same_settled made.found.0 (ap next_of made.found.1)
+  settled_kept stages.LoadSrc made stands = same_settled src src' (known (view old) old.source.0) (known (view new) new.source.0) made.found.1 (ap next_of made.found.2)
+  settled_kept (stages.LoadSlots n seen) made stands = same_settled src src' (known (view old) old.source.0) (known (view new) new.source.0) made.found.0 (ap next_of made.found.1)
+  settled_kept (stages.LoadAck seen) made stands = same_settled src src' (known (view old) old.source.0) (known (view new) new.source.0) made.found.0 (ap next_of made.found.1)
+  settled_kept stages.LoadTail made stands = same_settled src src' (known (view old) old.source.0) (known (view new) new.source.0) made.found.0 (ap next_of made.found.1)
+  settled_kept (stages.LoadSlot p) made stands = same_settled src src' (known (view old) old.source.0) (known (view new) new.source.0) made.found.0 (ap next_of made.found.1)
   settled_kept (stages.Publish p) made stands = by_test (word == empty_word p) refl
     where
       next_is : (b : Bool) → (word == empty_word p) ≡ b → next_of (calls_of (view new)) ≡ cond b (k + 1) (next_of (calls_of (view old)))
@@ -235,9 +236,9 @@ module _ {set : QueueSet} {port : Port} {readings : List ℕ} {a k src begun cha
           let was = settled_here (length readings) src a k (known (view old) old.source.0) stands.at.0 stands.src_kept stands.at.1 in
           let next = next_is true is in
           omega (arith, was, next)
-      by_test false is = same_settled made.found.0 (next_is false is)
-  settled_kept (stages.MoveTail p) made stands = same_settled made.found.0 (ap next_of made.found.1)
-  settled_kept (stages.HelpTail p) made stands = same_settled made.found.0 (ap next_of made.found.1)
+      by_test false is = same_settled src src' (known (view old) old.source.0) (known (view new) new.source.0) made.found.0 (next_is false is)
+  settled_kept (stages.MoveTail p) made stands = same_settled src src' (known (view old) old.source.0) (known (view new) new.source.0) made.found.0 (ap next_of made.found.1)
+  settled_kept (stages.HelpTail p) made stands = same_settled src src' (known (view old) old.source.0) (known (view new) new.source.0) made.found.0 (ap next_of made.found.1)
   settled_kept stages.StoreSkip made stands =
       let was = settled_here (length readings) src a k (known (view old) old.source.0) stands.at.0 stands.src_kept stands.at.1 in
       let now = settled_here (length readings) src' a (k + 1) (known (view new) new.source.0) made.stands.at.0 made.stands.src_kept made.stands.at.1 in
@@ -246,3 +247,13 @@ module _ {set : QueueSet} {port : Port} {readings : List ℕ} {a k src begun cha
       let was = settled_behind (length readings) src a k (known (view old) old.source.0) stands.at.0 stands.src_kept stands.at.1 in
       let now = settled_here (length readings) src' (a + 1) (k + 1) (known (view new) new.source.0) made.stands.at.0 made.stands.src_kept made.stands.at.1 in
       omega (arith, was, now)
+
+-- what SRC and the number of publications tell stays within the readings
+pub told_within : (number src : ℕ) (s : Knows) → SrcKept number (src % 2 ^ 32) (src / 2 ^ 32) s → IsWithin number src (length s.mine)
+told_within number src s h =
+    elim (cases_eq (length s.mine) (src % 2 ^ 32)) [
+      | inl all ↦ record { ordered = omega (arith, h.ordered, all); within = omega (arith, h.within, all) }
+      | inr lacks ↦
+          let one : length s.mine ≡ src % 2 ^ 32 + 1 = omega (arith, h.least, h.most, lacks) in
+          record { ordered = omega (arith, h.ordered, one); within = omega (arith, one, (h.behind one).1) }
+    ]

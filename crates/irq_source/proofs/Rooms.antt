@@ -78,6 +78,19 @@ module _ {port : Port} {number a k src : ℕ} {s : Knows} where
   refused_fits stages.StoreSkip word stands is = absurd cc
   refused_fits stages.StoreAccepted word stands is = absurd cc
 
+-- of the readings, those that SRC counts as settled and one that is refused and not skipped yet
+pub settled_few : (port : Port) (number a k src : ℕ) (s : Knows) (st : Stage) → Stands port number src s (row_at a k st) → src / 2 ^ 32 + unskipped st ≤ number
+settled_few port number a k src s stages.LoadSrc stands = omega (arith, stands.src_kept.within)
+settled_few port number a k src s (stages.LoadSlots n seen) stands = omega (arith, stands.src_kept.within)
+settled_few port number a k src s (stages.LoadAck seen) stands = omega (arith, stands.src_kept.within)
+settled_few port number a k src s stages.LoadTail stands = omega (arith, stands.src_kept.within)
+settled_few port number a k src s (stages.LoadSlot p) stands = omega (arith, stands.src_kept.within)
+settled_few port number a k src s (stages.Publish p) stands = omega (arith, stands.src_kept.within)
+settled_few port number a k src s (stages.MoveTail p) stands = omega (arith, stands.src_kept.within)
+settled_few port number a k src s (stages.HelpTail p) stands = omega (arith, stands.src_kept.within)
+settled_few port number a k src s stages.StoreSkip stands = omega (arith, stands.at.0.next, stands.row_for.stage)
+settled_few port number a k src s stages.StoreAccepted stands = omega (arith, stands.src_kept.within)
+
 -- as many readings are accepted as are published
 pub accepted_count : {readings : List ℕ} {places begun src : ℕ} {s : Knows} {accepted : List Published} {refused : List Declined} → Accounts readings places begun src s accepted refused → length accepted ≡ length s.mine
 accepted_count {accepted = accepted} h = sym (length-map accepted publication) ∙ ap length h.mine

@@ -53,4 +53,4 @@ module _ {pusher : Pusher} {src : ℕ} {old : SourceSeat} {readings : List ℕ} 
 
 -- the account of an actor
 pub actor_accounted : {pusher : Pusher} {src : ℕ} {seat : SourceSeat} {readings : List ℕ} {lists : Listed} {begun charges : ℕ} → IsActor pusher src seat readings lists begun charges → IsAccounted (acting pusher src seat readings lists begun charges)
-actor_accounted h = record { lists = h.account; src = h.stands.src_kept; mine = h.stands.mine_kept }
+actor_accounted h = record { port = h.port_is; lists = h.account; src = h.stands.src_kept; mine = h.stands.mine_kept }

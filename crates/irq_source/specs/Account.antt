@@ -1,5 +1,5 @@
 -- A source's lists of published and refused readings, and what they tell of its readings: its part of the account of its queue.
-use Rattle.std.specs.Prelude.{◌≡◌, ◌⊎◌, ℕ, ◌<◌, ◌≤◌, List, length, map, slice_index}
+use Rattle.std.specs.Prelude.{◌≡◌, ◌⊎◌, ℕ, ◌+◌, ◌-◌, ◌/◌, ◌%◌, ◌^◌, ◌<◌, ◌≤◌, List, length, map, slice_index}
 use mathlib.Core.Option.{some}
 use lib.ListN.{get_elem?}
 use Rattle.irq_source.specs.declared.lists.Published.{Published}
@@ -54,3 +54,12 @@ pub record Accounts (readings : List ℕ) (places begun src : ℕ) (s : Knows) (
   pub rise : (j n : ℕ) (a b : Declined) → j < n → get_elem? refused j ≡ some a → get_elem? refused n ≡ some b → a.reading ≤ b.reading
   pub parted : (j n : ℕ) (p : Published) (d : Declined) → get_elem? accepted j ≡ some p → get_elem? refused n ≡ some d → Parted p d
   pub covered : (k : ℕ) → k < settled_of src s → IsAccepted accepted k ⊎ IsRefused refused k
+
+-- how many readings are settled, by SRC and the number of publications: those that SRC counts, and one more where it lacks the last publication
+abbrev pub settled_with : (src published : ℕ) → ℕ
+settled_with src published = src / 2 ^ 32 + (published - src % 2 ^ 32)
+
+-- what SRC and the number of publications tell stays within the readings: no more are published than settled, and no more settled than there are
+pub record IsWithin (number src published : ℕ) : Type 0 where
+  pub ordered : published ≤ settled_with src published
+  pub within : settled_with src published ≤ number

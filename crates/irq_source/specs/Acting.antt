@@ -41,16 +41,17 @@ pub record IsSame (old new : Acting) : Type 0 where
   pub readings : new.readings ≡ old.readings
   pub charges : new.charges ≡ old.charges
 
--- what holds of a source's lists, of SRC and of its publications between any two accesses
-pub record IsAccounted (a : Acting) : Type 0 where
-  pub lists : Accounts a.readings a.port.queue.places a.begun a.place.src (knows a) a.place.accepted a.place.refused
-  pub src : SrcKept (length a.readings) (a.place.src % 2 ^ 32) (a.place.src / 2 ^ 32) (knows a)
-  pub mine : MineKept a.port.queue.places (knows a)
-
 -- the port is that of the seat's source
 pub record IsPortOf (port : Port) (s : SourceSeat) : Type 0 where
   pub source : port.source ≡ s.source
   pub ring : ring_of s ≡ port.queue.places
+
+-- what holds of a source's port, its lists, SRC and its publications between any two accesses
+pub record IsAccounted (a : Acting) : Type 0 where
+  pub port : IsPortOf a.port a.seat
+  pub lists : Accounts a.readings a.port.queue.places a.begun a.place.src (knows a) a.place.accepted a.place.refused
+  pub src : SrcKept (length a.readings) (a.place.src % 2 ^ 32) (a.place.src / 2 ^ 32) (knows a)
+  pub mine : MineKept a.port.queue.places (knows a)
 
 -- before the first charge
 abbrev pub first_place : Place

@@ -52,6 +52,7 @@ impl SourceActor {
     ghost use Rattle.push_core.specs.Table.{phase_of, IsPort, IsLeft, IsSettled, IsFew};
     ghost use Rattle.event_queue.specs.Views.{calls_of, source_told};
     ghost use Rattle.event_queue.specs.Seats.{view, IsSeatOf, IsSameSeat, IsNoteOf, Noted, HearsAsSource};
+    ghost use Rattle.irq_source.specs.Account.{IsWithin};
     ghost use Rattle.irq_source.specs.Acting.{first_place, knows, rebooted, IsAccounted, IsPortOf, IsSame};
     ghost use Rattle.irq_source.specs.Known.{Added, KnowsItsPlace, settled_of};
     ghost use Rattle.irq_source.specs.Pace.{SettlesEnough};
@@ -106,6 +107,7 @@ impl SourceActor {
         requires { IsSeatOf set.now self.old.seat }
         ensures same { IsSame self.old self.new × (self.new.begun ≡ self.old.begun) }
         ensures seat { IsSameSeat self.old.seat self.new.seat }
+        ensures calls { calls_of (view self.new.seat) ≡ calls_of (view self.old.seat) }
         ensures place { self.new.place ≡ self.old.place }
         ensures note { Noted set.now (source_told (view self.old.seat) self.old.seat.source.0) result }
     {
@@ -123,12 +125,16 @@ impl SourceActor {
         self.seat.hear(set, note);
     }
 
-    /// The seat, the word SRC and the two lists.
+    #[tactic(auto, using(crate::proofs::Accounts::told_within))]
+    /// The seat, the word SRC and the two lists. They are its account, which stays within its readings. A reading is refused at most once,
+    /// and once more for each charge that cut the source before its skip.
     pub fn into_parts(self) -> SourceParts
         ensures seat { result.seat ≡ self.seat }
         ensures src { result.src ≡ self.place.src }
         ensures lists { (result.accepted.items ≡ self.place.accepted) × (result.refused.items ≡ self.place.refused) }
         ensures account { IsAccounted self }
+        ensures within { IsWithin (length self.readings) self.place.src (length (knows self).mine) }
+        ensures few { length result.refused.items ≤ length self.readings + self.begun }
     {
         let SourceActor {
             seat,

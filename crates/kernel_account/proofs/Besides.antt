@@ -22,7 +22,7 @@ use Rattle.never_cut.specs.kept.Actors.{without_held}
 use Rattle.kernel_account.specs.declared.entry.KernelEntry.TheVariants.{Scan, Look, Commit, Release}
 use Rattle.kernel_account.specs.Account.{account_effect, AccountLegal, MayVisit, filled}
 use Rattle.kernel_account.specs.Follows.{kernels_part, IsBeside, AreSeen, FirstBeside, EveryEntryFollows, EveryCutFollows}
-use Rattle.kernel_account.proofs.Parts.{thread_part, map_set, FirstSame, commit_legal, commit_same, commit_queues, commit_clock}
+use Rattle.kernel_account.proofs.Parts.{thread_part, map_set, FirstSame, pending_same, commit_legal, commit_same, commit_queues, commit_clock}
 
 thread_here : (m : Model) (t : ℕ) (x : ThreadModel) → t < length m.threads → thread_of (with_thread m t x) t ≡ x
 thread_here m t x lt = get_or-set_same m.threads t x no_thread lt
@@ -52,7 +52,7 @@ module _ {program : Program} {events : ℕ → List Event} {account m : Model} (
   same_part : {A : Type 0} (f : ThreadModel → A) (t : ℕ) → f (without_held (thread_of account t)) ≡ f (without_held (thread_of m t))
   same_part f t = ap f (sym (thread_part account t)) ∙ ap (λ (k : Model). f (thread_of k t)) b.same ∙ ap f (thread_part m t)
 
-  released_same : (t : ℕ) → (thread_of account t).released ≡ (thread_of m t).released
+  pub released_same : (t : ℕ) → (thread_of account t).released ≡ (thread_of m t).released
   released_same t = same_part (λ x. x.released) t
 
   -- the first event of an unfinished queue, where the kernel's own state has it
@@ -89,11 +89,27 @@ module _ {program : Program} {events : ℕ → List Event} {account m : Model} (
       visit (Some scan) is h =
           subst (λ (o : Option ScanModel). InScan (record account { scan = o }) (λ s. MayVisit account s t.0)) (sym is) (h.0, same_part (λ x. x.running) t.0 ∙ h.1)
 
+  -- the pending event of a thread that may commit is the queue's first, where no chain runs and the scan has not looked
+  first_there : (readings : Readings) (t : ThreadId) → AreSeen program events m → (thread_of m t.0).finished ≡ false → Legal program readings m (entries.Commit t) → FirstSame m account t.0
+  first_there readings t seen calm legal scan is looked_not idle =
+      let shown : pending program m t.0 ≡ first_of (unfinished (thread_of m t.0)) =
+      (λ j. elim (is j) [ None ↦ None | Some s ↦ pending_in program m t.0 s ])
+      ∙ (λ j. elim (idle j) [ Some task ↦ (thread_of m t.0).event | None ↦ if looked_not j then later_event program m t.0 scan.time else first_of (unfinished (thread_of m t.0)) ]) in
+      by_first (first_of (unfinished (thread_of m t.0))) refl (subst IsSome shown legal.2)
+    where
+      by_first : (o : Option Event) → first_of (unfinished (thread_of m t.0)) ≡ o → IsSome o → first_of (unfinished (thread_of account t.0)) ≡ first_of (unfinished (thread_of m t.0))
+      by_first None is some_event = absurd cc
+      by_first (Some e) is some_event = first_same t.0 legal.0 seen calm e is ∙ sym is
+
+  -- so it serves the same event in the account
+  pub pending_beside : (readings : Readings) (t : ThreadId) → AreSeen program events m → (thread_of m t.0).finished ≡ false → Legal program readings m (entries.Commit t) → pending program account t.0 ≡ pending program m t.0
+  pending_beside readings t seen calm legal = pending_same program m account t.0 b.same (first_there readings t seen calm legal)
+
   -- a thread commits
   commit_beside : (readings : Readings) (t : ThreadId) → AreSeen program events m → (thread_of m t.0).finished ≡ false → Legal program readings m (entries.Commit t) →
       AccountLegal program account (Commit t) × IsBeside program events (account_effect program account (Commit t)) (effect program readings m (entries.Commit t))
   commit_beside readings t seen calm legal =
-      let first = first_there in (
+      let first = first_there readings t seen calm legal in (
         commit_legal program readings [] m account t b.same first legal,
         record {
           same = commit_same program m account t.0 b.same first;
@@ -101,18 +117,6 @@ module _ {program : Program} {events : ℕ → List Event} {account m : Model} (
           clock = omega (arith, b.clock, commit_clock program t.0 account, commit_clock program t.0 m);
         },
       )
-    where
-      by_first : (o : Option Event) → first_of (unfinished (thread_of m t.0)) ≡ o → IsSome o → first_of (unfinished (thread_of account t.0)) ≡ first_of (unfinished (thread_of m t.0))
-      by_first None is some_event = absurd cc
-      by_first (Some e) is some_event = first_same t.0 legal.0 seen calm e is ∙ sym is
-
-      -- the pending event is the queue's first, where no chain runs and the scan has not looked
-      first_there : FirstSame m account t.0
-      first_there scan is looked_not idle =
-          let shown : pending program m t.0 ≡ first_of (unfinished (thread_of m t.0)) =
-          (λ j. elim (is j) [ None ↦ None | Some s ↦ pending_in program m t.0 s ])
-          ∙ (λ j. elim (idle j) [ Some task ↦ (thread_of m t.0).event | None ↦ if looked_not j then later_event program m t.0 scan.time else first_of (unfinished (thread_of m t.0)) ]) in
-          by_first (first_of (unfinished (thread_of m t.0))) refl (subst IsSome shown legal.2)
 
   threads_same : length account.threads ≡ length m.threads
   threads_same = sym (length-map account.threads without_held) ∙ ap (λ (k : Model). length k.threads) b.same ∙ length-map m.threads without_held
@@ -140,7 +144,7 @@ module _ {program : Program} {events : ℕ → List Event} {account m : Model} (
   )
 
 -- nothing is finished in a scan
-calm_in : (program : Program) (m : Model) (t : ℕ) (P : ScanModel → Type 0) → ((scan : ScanModel) → m.scan ≡ Some scan → IsCalm program m) → t < length program.threads → InScan m P → (thread_of m t).finished ≡ false
+pub calm_in : (program : Program) (m : Model) (t : ℕ) (P : ScanModel → Type 0) → ((scan : ScanModel) → m.scan ≡ Some scan → IsCalm program m) → t < length program.threads → InScan m P → (thread_of m t).finished ≡ false
 calm_in program m t P calm known h = by_scan m.scan refl h
   where
     by_scan : (o : Option ScanModel) → m.scan ≡ o → InScan (record m { scan = o }) P → (thread_of m t).finished ≡ false

@@ -16,6 +16,8 @@ use Rattle.kernel_actor.specs.Books.{Book, charges_by, charges_in}
 use Rattle.kernel_actor.specs.Kinds.{kind_of}
 use Rattle.kernel_actor.specs.Lays.{IsLayOf}
 use Rattle.kernel_actor.specs.Rows.{Place, Finds, Leads, LeadsOne}
+use Rattle.kernel_actor.specs.Served.{KeepsSeen}
+use Rattle.kernel_actor.specs.Timely.{AddsTimely}
 use Rattle.kernel_actor.specs.kept.Answered.{CanMake, Answered}
 use Rattle.kernel_actor.specs.kept.Imagines.{Imagines}
 use Rattle.kernel_actor.specs.kept.Standing.{Standing}
@@ -23,6 +25,8 @@ use Rattle.kernel_actor.specs.declared.kind.Kind.{Kind}
 use Rattle.kernel_actor.specs.declared.kind.Kind.TheVariants.{Own, Clock, Look, Acknowledge, Release}
 use Rattle.kernel_actor.proofs.Standings.{can_make, can_take, there, within}
 use Rattle.kernel_actor.proofs.Steps.{stands_next}
+use Rattle.kernel_actor.proofs.Timing.{step_timely}
+use Rattle.kernel_actor.proofs.Serving.{leads_later, step_seen}
 use Rattle.kernel_actor.proofs.Charges.{stands_cut, stands_first}
 use Rattle.prog_check.specs.Accepted.{IsAccepted}
 use Rattle.ink_layout.specs.Image.{IsFirstImage}
@@ -78,6 +82,14 @@ module _ (program : Program) (layout : Layout) (fram : List ℕ) (kernel : Kerne
       kernel = registers;
       entries = entries_here;
     }
+
+    pub timely_now : AddsTimely v.told book.entries book'.entries
+    timely_now = subst (AddsTimely v.told book.entries) (sym entries_here) (step_timely ready fram' v' w book.entries answer_here)
+
+    pub seen_now : KeepsSeen program book.done (placed kernel fram v book) (placed kernel' fram' v' book')
+    seen_now =
+        subst (λ (es : List KernelEntry). KeepsSeen program book.done (placed kernel fram v book) (record { kernel = kernel'; words = fram'; calls = calls_of v'; entries = es })) (sym entries_here)
+        (record { each = step_seen book.done book.entries ready fram' v' w (leads_later program (placed kernel fram v book) (placed kernel' fram' v' book') leads_now) answer_here })
 
 -- what stands is an account
 pub keeps_account : (program : Program) (layout : Layout) (fram : List ℕ) (kernel : Kernel) (v : View) (left : ℕ) (charges : List (List KernelEntry)) → Standing program layout fram kernel v left charges → IsAccountOf program (calls_of v) charges

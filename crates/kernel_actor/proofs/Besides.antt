@@ -32,7 +32,8 @@ use Rattle.event_queue.specs.declared.view.Call.TheVariants as made
 use Rattle.event_queue.specs.Calls.{released_of, seen_of}
 use Rattle.event_queue.specs.Events.{holds_event}
 use Rattle.kernel_actor.specs.Accounts.{IsFoundAt, AreFound, noted}
-use Rattle.kernel_actor.specs.kept.Imagines.{IsHeld, Imagines}
+use Rattle.kernel_actor.specs.Held.{IsHeld}
+use Rattle.kernel_actor.specs.kept.Imagines.{Imagines}
 use Rattle.kernel_actor.specs.kept.Standing.{Accounts}
 
 -- threads that differ in held events alone

@@ -11,6 +11,9 @@ pub mod Stores
 pub mod Standings
 pub mod Steps
 pub mod Charges
+pub mod Timing
+pub mod Serving
 pub mod Acting
+pub mod Ending
 pub mod Ticking
 pub mod ProgramLays

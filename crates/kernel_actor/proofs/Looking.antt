@@ -30,7 +30,8 @@ use Rattle.event_queue.specs.Calls.{released_of, seen_of}
 use Rattle.event_queue.specs.Views.{calls_of, places_of, queue_of as queue_in}
 use Rattle.event_queue.proofs.Words.{full_holds, empty_holds}
 use Rattle.kernel_actor.specs.Lays.{IsLayOf}
-use Rattle.kernel_actor.specs.kept.Imagines.{IsHeld, Imagines}
+use Rattle.kernel_actor.specs.Held.{IsHeld}
+use Rattle.kernel_actor.specs.kept.Imagines.{Imagines}
 use Rattle.kernel_actor.proofs.Pushes.{event_of, push_state, push_slot, push_is_other}
 use Rattle.kernel_actor.proofs.Rows.{slot_place, LooksAt, IsPast}
 use Rattle.kernel_actor.proofs.Seeing.{told_nothing, sees, next_position, ticks, clock_follows}

@@ -1,15 +1,13 @@
 -- The queues of an accepted program are within the limits of a set.
-use Rattle.std.proofs.Common.{◌≡◌, inl, inr, ℕ, ◌+◌, ◌<◌, ◌≤◌, List, [], length, map, slice_index, get_or, refl, sym, ap, ◌∙◌, subst, arith}
+use Rattle.std.proofs.Common.{◌≡◌, inl, inr, ℕ, ◌<◌, List, length, map, slice_index, sym, subst, arith}
 use Rattle.std.proofs.lemmas.Bool.{cases_lt}
 use Rattle.std.proofs.lemmas.List.{length-map, get_or_past, get_or-map}
-use Rattle.ink_base.specs.declared.limits.TheConstants as limits
 use Rattle.ink_base.specs.declared.ids.ThreadId.{ThreadId}
 use Rattle.task_isa.specs.declared.program.Program.{Program}
-use Rattle.task_isa.specs.declared.program.ThreadDef.{ThreadDef}
 use Rattle.prog_check.specs.Accepted.{IsAccepted}
 use Rattle.prog_check.specs.Lookup.{thread_def, source_thread, no_thread_def, no_thread}
 use Rattle.event_queue.specs.Rule.{IsLay}
-use Rattle.event_queue.specs.Views.{lay_of, places_of, queue_of}
+use Rattle.event_queue.specs.Views.{lay_of}
 use Rattle.event_queue.specs.declared.view.Lay.{Lay}
 use Rattle.event_queue.specs.declared.view.Shape.{Shape}
 use Rattle.kernel_actor.specs.Lays.{IsLayOf, places_in}

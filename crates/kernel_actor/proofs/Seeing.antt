@@ -29,7 +29,8 @@ use Rattle.event_queue.specs.declared.view.Call.TheVariants.{Look, LoadClock, St
 use Rattle.event_queue.specs.Events.{holds_event}
 use Rattle.event_queue.specs.Calls.{released_of, seen_of, acked_of, clock_of}
 use Rattle.kernel_actor.specs.Kinds.{IsOwn, kind_of}
-use Rattle.kernel_actor.specs.kept.Imagines.{IsHeld, Imagines}
+use Rattle.kernel_actor.specs.Held.{IsHeld}
+use Rattle.kernel_actor.specs.kept.Imagines.{Imagines}
 use Rattle.kernel_actor.specs.declared.kind.Kind.TheVariants as kinds
 use Rattle.kernel_actor.proofs.Pushes.{event_of, push_readings, push_state, push_position, push_words, push_elsewhere, push_here, push_is_other, push_private, push_short, push_background}
 

@@ -41,7 +41,8 @@ use Rattle.event_queue.specs.declared.view.Call.{Call}
 use Rattle.event_queue.specs.declared.view.Call.TheVariants as calls_made
 use Rattle.event_queue.specs.Calls.{released_of, seen_of, acked_of}
 use Rattle.kernel_actor.specs.Kinds.{IsOwn, kind_of}
-use Rattle.kernel_actor.specs.kept.Imagines.{IsHeld, IsAcked, Imagines}
+use Rattle.kernel_actor.specs.Held.{IsHeld}
+use Rattle.kernel_actor.specs.kept.Imagines.{IsAcked, Imagines}
 use Rattle.kernel_actor.specs.declared.kind.Kind.TheVariants.{Own, Acknowledge}
 use Rattle.kernel_actor.proofs.Rows.{IsStill}
 use Rattle.kernel_actor.proofs.Acks.{IsBehind, release_behind}

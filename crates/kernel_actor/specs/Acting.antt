@@ -7,6 +7,7 @@ use Rattle.event_queue.specs.Seats.{kernel_view, IsSameKernelSeat}
 use Rattle.event_queue.specs.Views.{calls_of}
 use Rattle.kernel_actor.specs.Accounts.{IsAccountOf}
 use Rattle.kernel_actor.specs.Books.{Book, charges_in}
+use Rattle.kernel_actor.specs.Ends.{EndsAs}
 use Rattle.kernel_actor.specs.Rows.{Place}
 
 -- the program, the registers, the own words, the seat and the account, and how many accesses it may still make
@@ -39,3 +40,7 @@ pub record IsBeside (old new : Acting) : Type 0 where
 -- its account is one, by all that its seat has seen
 abbrev pub KeepsAccount : Acting → Type 0
 KeepsAccount a = IsAccountOf a.program (calls_of (kernel_view a.seat)) (charges_in a.book)
+
+-- if it ended now, it would leave words and an account that stand for one state
+abbrev pub LeavesState : Acting → Type 0
+LeavesState a = EndsAs a.program a.words (calls_of (kernel_view a.seat)) (charges_in a.book)

@@ -16,7 +16,7 @@ use Rattle.kernel_account.specs.declared.entry.KernelEntry.{KernelEntry}
 use Rattle.event_queue.specs.Calls.{released_of, seen_of, acked_of, clock_of}
 use Rattle.event_queue.specs.declared.view.Call.{Call}
 use Rattle.kernel_actor.specs.Accounts.{AreFound}
-use Rattle.kernel_actor.specs.kept.Imagines.{IsHeld}
+use Rattle.kernel_actor.specs.Held.{IsHeld}
 
 -- The own words stand for a sound state that has released what its calls have released, and in which each queue holds at most what they have seen. It is
 -- the state after the account, whatever events the queues are to have, if those that were found are among them.

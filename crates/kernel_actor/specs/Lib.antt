@@ -2,9 +2,12 @@ pub mod Kinds
 pub mod Lays
 pub mod Accounts
 pub mod Rows
+pub mod Timely
+pub mod Served
 pub mod Books
-pub mod Acting
+pub mod Held
 pub mod Ends
+pub mod Acting
 pub mod Ticks
 pub mod Looks
 pub mod kept

@@ -3,12 +3,12 @@
 use crate::access::make_access;
 use crate::book::KernelBook;
 use crate::entries::{commits_of, entry_made};
-use crate::gate::{Gate, Spent};
 use crate::kind::kind_of;
 use event_queue::{KernelSeat, Note, QueueSet};
 use fram_words::Fram;
 use ink_base::{Actor, NoMemory};
 use ink_layout::{Plan, first_image};
+use irq_source::{Gate, Spent};
 use kernel_account::KernelEntry;
 use kernel_core::Kernel;
 use sqlite_items::Items;
@@ -45,9 +45,10 @@ impl Model for KernelActor {
     ghost invariant = { λ c. Standing c.plan.accepted c.plan.layout c.fram c.kernel (kernel_view c.seat) c.left (charges_in c.book) × (c.left + c.commits ≤ 4194304) };
 }
 
-/// What the kernel leaves behind: its seat, its words, and its account, charge by charge.
+/// What the kernel leaves behind: its plan, its seat, its words, and its account, charge by charge.
 #[derive(Drop)]
 pub struct KernelParts {
+    pub plan: Plan,
     pub seat: KernelSeat,
     pub words: Vec<u64>,
     pub account: Vec<Items<KernelEntry>>,
@@ -60,10 +61,13 @@ impl KernelActor {
     ghost use Rattle.ink_layout.specs.Image.{IsFirstImage};
     ghost use Rattle.kernel_core.specs.Kernel.{first_kernel};
     ghost use Rattle.kernel_actor.specs.Accounts.{IsAccountOf};
-    ghost use Rattle.kernel_actor.specs.Acting.{place_of, IsSame, IsBeside, KeepsAccount};
+    ghost use Rattle.kernel_actor.specs.Acting.{place_of, IsSame, IsBeside, KeepsAccount, LeavesState};
     ghost use Rattle.kernel_actor.specs.Books.{charges_in, HaveRoom};
+    ghost use Rattle.kernel_actor.specs.Ends.{EndsAs};
     ghost use Rattle.kernel_actor.specs.Lays.{IsLayOf};
     ghost use Rattle.kernel_actor.specs.Rows.{Leads, LeadsOne};
+    ghost use Rattle.kernel_actor.specs.Served.{KeepsSeen};
+    ghost use Rattle.kernel_actor.specs.Timely.{AddsTimely};
 
     /// The kernel before its first charge: its words are those of the first image. The seat is one of a set with the program's queues and
     /// sources, and has made no call. There is room for as many entries in each charge as its budget says.
@@ -135,11 +139,12 @@ impl KernelActor {
         self.seat.hear(set, note);
     }
 
-    #[tactic(auto, using(crate::proofs::Acting::leads_then))]
+    #[tactic(auto, using(crate::proofs::Acting::leads_then, crate::proofs::Timing::timely_none, crate::proofs::Timing::timely_then, crate::proofs::Serving::seen_none, crate::proofs::Serving::seen_then))]
     /// Makes so many accesses, passing the gate before each. The actor is then where so many rows of the kernel's table lead, own words
     /// being read and written in its own memory, and each word of a shared place being the one that its seat was answered by a call of this
     /// charge; each entry of its account is the one of such a row. And its account is one, whatever events the queues are to have, if those
-    /// that its seat has seen are among them.
+    /// that its seat has seen are among them: then it serves no event of a queue that its seat has not seen. Its entries are no earlier than
+    /// what its seat was told before.
     pub fn run_charge<G: Gate>(&mut self, set: &QueueSet, budget: u32, gate: &G) -> Spent
         requires seat { IsKernelSeatOf set.now self.old.seat }
         requires begun { self.old.book.begun ≡ true }
@@ -148,6 +153,8 @@ impl KernelActor {
         ensures seat { IsKernelSeatOf set.now self.new.seat }
         ensures same { IsSame self.old self.new }
         ensures leads { Leads self.old.program budget (place_of self.old) (place_of self.new) }
+        ensures timely { AddsTimely (kernel_view self.old.seat).told self.old.book.entries self.new.book.entries }
+        ensures served { KeepsSeen self.old.program self.old.book.done (place_of self.old) (place_of self.new) }
         ensures account { KeepsAccount self.new }
         ensures left { self.old.left ≡ self.new.left + budget }
         ensures spare { self.old.book.spare ≤ self.new.book.spare + budget }
@@ -168,21 +175,34 @@ impl KernelActor {
         let _left = self.left;
     }
 
-    /// What it leaves behind. It takes no memory.
+    /// The law of its end: at any time its own words stand for a state that has released what its seat has, and that is the state after its
+    /// account, whatever events the queues are to have, if those that its seat has seen are among them.
+    pub fn ends(&self)
+        ensures { LeavesState self.now }
+    {
+        let _left = self.left;
+    }
+
+    /// What it leaves behind, which is as the law of its end says. It takes no memory.
     pub fn into_parts(self) -> KernelParts
+        ensures plan { result.plan.accepted ≡ self.program }
         ensures seat { result.seat ≡ self.seat }
         ensures words { result.words.items ≡ self.words }
         ensures charges { result.account.items ≡ charges_in self.book }
         ensures account { IsAccountOf self.program (calls_of (kernel_view result.seat)) result.account.items }
+        ensures ends { EndsAs self.program result.words.items (calls_of (kernel_view result.seat)) result.account.items }
     {
         self.accounts();
+        self.ends();
         let KernelActor {
+            plan,
             fram,
             seat,
             book,
             ..
         } = self;
         KernelParts {
+            plan,
             seat,
             words: fram.into_words(),
             account: book.into_charges(),
@@ -198,6 +218,8 @@ impl KernelActor {
         ensures seat { IsKernelSeatOf set.now self.new.seat }
         ensures same { IsSame self.old self.new }
         ensures leads { LeadsOne self.old.program (place_of self.old) (place_of self.new) }
+        ensures timely { AddsTimely (kernel_view self.old.seat).told self.old.book.entries self.new.book.entries }
+        ensures served { KeepsSeen self.old.program self.old.book.done (place_of self.old) (place_of self.new) }
         ensures left { self.old.left ≡ self.new.left + 1 }
         ensures spare { self.old.book.spare ≤ self.new.book.spare + 1 }
     {

@@ -6,8 +6,8 @@ ghost use Rattle.event_queue.specs.Views.{calls_of, clock_told};
 ghost use Rattle.event_queue.specs.declared.view.Call.TheVariants.{AddClock};
 ghost use Rattle.kernel_actor.specs.Ticks.{ticked};
 
-use crate::gate::Spent;
 use event_queue::{ClockSeat, Note, QueueSet};
+use irq_source::Spent;
 
 /// The clock with its seat at the queues.
 #[derive(Drop)]

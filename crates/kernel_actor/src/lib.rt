@@ -6,12 +6,10 @@ mod actor;
 mod book;
 mod clock;
 mod entries;
-mod gate;
 mod kind;
 mod queues;
 
 pub use actor::{KERNEL_ACCESSES, KernelActor, KernelParts};
 pub use clock::ClockActor;
-pub use gate::{Gate, NoGate, Spent};
 pub use kind::Kind;
 pub use queues::queues_of;

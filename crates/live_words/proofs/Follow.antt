@@ -1,5 +1,5 @@
 -- The state at the end differs from the kernel's own state in events that were added to queues, in the sources and in a later clock.
-use Rattle.std.proofs.Common.{◌≡◌, inl, inr, ℕ, zero, suc, ◌+◌, ◌^◌, ◌<◌, ◌≤◌, ◌==◌, cond, Bool, true, false, List, [], ◌∷◌, ◌++◌, map, drop, length, get_or, refl, sym, ap, ◌∙◌, subst, arith, eq-eqb, Option, Some, None}
+use Rattle.std.proofs.Common.{◌≡◌, inl, inr, ℕ, suc, ◌^◌, ◌<◌, ◌≤◌, cond, Bool, List, [], ◌∷◌, ◌++◌, map, drop, length, refl, sym, ap, ◌∙◌, subst, arith, eq-eqb, Option, Some, None}
 use Rattle.std.proofs.lemmas.Bool.{cases_lt}
 use Rattle.std.proofs.lemmas.List.{length-map, get_or_past}
 use Rattle.std.proofs.lemmas.Option.{same_Some}
@@ -22,7 +22,7 @@ use Rattle.never_cut.specs.State.{thread_of, no_thread}
 use Rattle.never_cut.specs.Sound.{IsQueued}
 use Rattle.never_cut.specs.kept.Actors.{Follows, without_held}
 use Rattle.job_parts.specs.Job.{JobParts}
-use Rattle.kernel_account.specs.Follows.{kernels_part, IsBeside}
+use Rattle.kernel_account.specs.Follows.{IsBeside}
 use Rattle.kernel_account.proofs.Parts.{thread_part}
 use Rattle.event_queue.specs.Calls.{released_of, seen_of, clock_of}
 use Rattle.event_queue.specs.Places as set
@@ -30,10 +30,9 @@ use Rattle.event_queue.specs.Places.{word_at}
 use Rattle.event_queue.specs.Rule.{Every, LookKept}
 use Rattle.event_queue.specs.Views.{calls_of}
 use Rattle.event_queue.specs.declared.view.Call.{Call}
-use Rattle.event_queue.proofs.Counts.{entry_fits, few_entries}
-use Rattle.event_queue.proofs.Basics.{below}
+use Rattle.event_queue.proofs.Counts.{entry_fits}
 use Rattle.kernel_actor.specs.Accounts.{AreFound}
-use Rattle.kernel_actor.specs.kept.Imagines.{IsHeld}
+use Rattle.kernel_actor.specs.Held.{IsHeld}
 use Rattle.live_account.specs.declared.record.LiveRecord.{LiveRecord}
 use Rattle.live_account.specs.Kernel.{events_in, state_after, last_state}
 use Rattle.live_account.specs.Turns.{all_ticks}

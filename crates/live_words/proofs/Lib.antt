@@ -5,3 +5,4 @@ pub mod Founds
 pub mod Queues
 pub mod Follow
 pub mod Standing
+pub mod Sounding

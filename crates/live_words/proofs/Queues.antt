@@ -1,12 +1,11 @@
 -- What the words of a queue stand for once some of its events are released.
-use Rattle.std.proofs.Common.{◌≡◌, ◌⊎◌, inl, inr, ℕ, zero, suc, ◌+◌, ◌-◌, ◌%◌, ◌^◌, ◌<◌, ◌≤◌, Bool, List, [], ◌∷◌, map, drop, length, get_or, refl, sym, ap, ◌∙◌, subst, arith, mod-lt, length-drop}
+use Rattle.std.proofs.Common.{◌≡◌, ◌⊎◌, inl, inr, ℕ, suc, ◌+◌, ◌-◌, ◌%◌, ◌<◌, Bool, List, map, drop, length, get_or, sym, ap, ◌∙◌, arith, mod-lt, length-drop}
 use Rattle.std.proofs.lemmas.List.{length-map, get_or-map, get_or-drop}
 use mathlib.Core.Option.{some}
 use lib.ListN.{get_elem?}
 use Rattle.ink_base.specs.declared.event.Event.{Event}
-use Rattle.push_core.specs.Slots.{empty_word}
-use Rattle.push_core.specs.Queue.{Queue, StandsQueue, published, event_at, event_word, no_event}
-use Rattle.event_queue.specs.Events.{Entry, full}
+use Rattle.push_core.specs.Queue.{StandsQueue, event_at, event_word, no_event}
+use Rattle.event_queue.specs.Events.{Entry}
 use Rattle.event_queue.specs.Rule.{QueueKept}
 use Rattle.event_queue.proofs.Basics.{at_get}
 use Rattle.live_account.specs.Matches.{event_of}

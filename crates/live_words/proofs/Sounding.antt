@@ -1,5 +1,5 @@
 -- The last state is a state of the never-cut kernel.
-use Rattle.std.proofs.Common.{◌≡◌, inl, inr, ℕ, zero, suc, ◌+◌, ◌-◌, ◌*◌, ◌^◌, ◌<◌, ◌≤◌, ◌==◌, cond, Bool, true, false, List, [], ◌∷◌, ◌++◌, map, drop, length, slice_index, get_or, refl, sym, ap, ◌∙◌, subst, arith, eqb-true, length-append, Option, Some, None, All}
+use Rattle.std.proofs.Common.{◌≡◌, inl, inr, ℕ, zero, suc, ◌+◌, ◌-◌, ◌*◌, ◌^◌, ◌<◌, ◌≤◌, ◌==◌, cond, Bool, true, false, List, [], ◌++◌, drop, length, slice_index, get_or, sym, ap, ◌∙◌, subst, arith, length-append, Option, All}
 use Rattle.std.specs.Option.{ForSome}
 use Rattle.std.proofs.lemmas.Bool.{false≢true, cases_lt}
 use Rattle.std.proofs.lemmas.List.{get_or_append_left, get_or_past}
@@ -12,18 +12,17 @@ use Rattle.ink_base.specs.declared.ids.TaskId.{TaskId}
 use Rattle.ink_base.specs.declared.limits.TheConstants as limits
 use Rattle.ink_base.specs.declared.output.Output.{Output}
 use Rattle.push_core.specs.Table.{greatest_tail}
-use Rattle.push_core.specs.Queue as queues
 use Rattle.push_core.specs.Queue.{published, event_at, no_event}
-use Rattle.prog_check.specs.Lookup.{thread_def, source_thread}
+use Rattle.prog_check.specs.Lookup.{thread_def, pipe_def, source_thread}
 use Rattle.never_cut.specs.declared.model.Model.{Model}
 use Rattle.never_cut.specs.declared.pipe_model.PipeModel.{PipeModel}
 use Rattle.never_cut.specs.declared.timer_model.TimerModel.{TimerModel}
 use Rattle.never_cut.specs.declared.scan_model.ScanModel.{ScanModel}
 use Rattle.never_cut.specs.declared.source_model.SourceModel.{SourceModel}
 use Rattle.never_cut.specs.declared.thread_model.ThreadModel.{ThreadModel}
-use Rattle.never_cut.specs.State.{thread_of, pipe_of, timer_of, source_of, queue_of, source_in, no_pipe, no_timer}
+use Rattle.never_cut.specs.State.{thread_of, queue_of, no_pipe, no_timer}
 use Rattle.never_cut.specs.Commit.{outputs_of}
-use Rattle.never_cut.specs.Entries.{Readings, readings_of, IsCalm}
+use Rattle.never_cut.specs.Entries.{readings_of, IsCalm}
 use Rattle.never_cut.specs.Sound.{IsSound, IsSoundThread, IsSoundSource, IsChain, IsServed, IsQueued, HasStamps, sources_in, unsettled_into}
 use Rattle.never_cut.specs.Within.{Lasts, LastsThread, HasRoomFor, is_scanning}
 use Rattle.never_cut.specs.Stands.{flag}
@@ -35,7 +34,7 @@ use Rattle.event_queue.specs.Events.{Entry}
 use Rattle.event_queue.specs.Rule.{published_into}
 use Rattle.event_queue.specs.Views.{queue_of as queue_in}
 use Rattle.live_account.specs.declared.record.LiveRecord.{LiveRecord}
-use Rattle.live_account.specs.Kernel.{events_in, last_state}
+use Rattle.live_account.specs.Kernel.{events_in}
 use Rattle.live_account.specs.Queues.{source_state}
 use Rattle.live_words.specs.Ends.{IsLeft, source_by}
 use Rattle.live_words.proofs.Lists.{for_some}
@@ -54,7 +53,7 @@ module _ (job : JobParts) (r : LiveRecord) (left : IsLeft job r) where
   few_readings : (i : ℕ) → length (readings_of job.readings i) ≤ limits.READINGS
   few_readings i =
       elim (cases_lt i (length job.readings)) [
-        | inl lt ↦ let is = All-get_or Rattle.job_parts.specs.Job.AreReadings job.readings i [] lt left.is_job.readings in let few = is.few in omega arith
+        | inl lt ↦ let is = All-get_or Rattle.job_parts.specs.Job.AreReadings job.readings i [] lt left.is_job.readings in let few = is.count in omega arith
         | inr past ↦ let none : length (readings_of job.readings i) ≡ 0 = ap length (get_or_past job.readings i [] past) in omega arith
       ]
 
@@ -74,7 +73,7 @@ module _ (job : JobParts) (r : LiveRecord) (left : IsLeft job r) where
       let one = of_source k (omega arith) in
       let here = by_queue (source_thread job.program k == t) (length (mine_of (left.finished.calls.source k))) (length (readings_of job.readings k) - (sources_in end k).next) one in
       let mine : cond (queue_in left.lay k == t) (length (mine_of (left.finished.calls.source k))) 0 ≡ cond (source_thread job.program k == t) (length (mine_of (left.finished.calls.source k))) 0 =
-          ap (λ (b : Bool). cond b (length (mine_of (left.finished.calls.source k))) 0) same in
+      ap (λ (b : Bool). cond b (length (mine_of (left.finished.calls.source k))) 0) same in
       omega (arith, rest, here, mine)
     where
       by_queue : (b : Bool) (x y : ℕ) → x + y ≤ limits.READINGS → cond b x 0 + cond b y 0 ≤ limits.READINGS
@@ -94,11 +93,11 @@ module _ (job : JobParts) (r : LiveRecord) (left : IsLeft job r) where
     positions : published (queue_of (thread_of end t)) + unsettled_into job.program job.readings end t (length job.program.sources) ≤ greatest_tail
     positions =
         let size : length (thread_of end t).held ≡ length (left.finished.entries t) - released_of t (calls job r left) =
-            ap length held ∙ left_count (left.finished.entries t) (events_in r t) (left.events t known) (released_of t (calls job r left)) in
+        ap length held ∙ left_count (left.finished.entries t) (events_in r t) (left.events t known) (released_of t (calls job r left)) in
         let behind : released_of t (calls job r left) ≤ length (left.finished.entries t) =
-            subst (λ l. released_of t l ≤ length (left.finished.entries t)) left.finished.kernel_is (left.finished.kept.queues t).behind in
+        subst (λ l. released_of t l ≤ length (left.finished.entries t)) left.finished.kernel_is (left.finished.kept.queues t).behind in
         let number : length (left.finished.entries t) ≡ published_into left.lay left.finished.calls.source t (length job.program.sources) =
-            (left.finished.kept.events t).number ∙ ap (published_into left.lay left.finished.calls.source t) left.is_lay.sources in
+        (left.finished.kept.events t).number ∙ ap (published_into left.lay left.finished.calls.source t) left.is_lay.sources in
         let few : length job.program.sources ≤ limits.SOURCES = let n = left.finished.limits.sources in let same = left.is_lay.sources in omega arith in
         omega (arith, size, behind, number, few, released_is, of_sources t (length job.program.sources) (omega arith))
 
@@ -110,7 +109,7 @@ module _ (job : JobParts) (r : LiveRecord) (left : IsLeft job r) where
         let source = is.source in
         let queue = is.queue in
         let lt_sources : (get_or (left.finished.entries t) (released_of t (calls job r left) + k) (record { source = 0; count = 0; reading = 0; value = 0 })).source < length job.program.sources =
-            omega (arith, source, left.is_lay.sources) in
+        omega (arith, source, left.is_lay.sources) in
         subst (IsQueued job.program t) (sym (ap (λ (l : List Event). event_at l k) held ∙ left_at (left.finished.entries t) (events_in r t) (left.events t known) (released_of t (calls job r left)) k within))
         (lt_sources, sym (left.is_lay.queue _ lt_sources) ∙ queue, is.count, is.value)
 
@@ -120,7 +119,7 @@ module _ (job : JobParts) (r : LiveRecord) (left : IsLeft job r) where
         let f = follows job r left in
         let more : (thread_of end t).held ≡ (thread_of m t).held ++ f.more t = f.held t in
         let size : length (thread_of end t).held ≡ length (thread_of m t).held + length (f.more t) = ap length more ∙ length-append (thread_of m t).held (f.more t) in
-        (omega (arith, some_held, size), ap (λ (l : List Event). event_at l 0) more ∙ get_or_append_left (thread_of m t).held (f.more t) 0 no_event some_held)
+        (omega (arith, some_held, size), ap (λ (l : List Event). event_at l 0) more ∙ get_or_append_left (thread_of m t).held (f.more t) no_event 0 some_held)
 
     served : (e : Event) → IsServed job.program m t e → IsServed job.program end t e
     served e = by_origin e.origin e.value
@@ -180,8 +179,18 @@ module _ (job : JobParts) (r : LiveRecord) (left : IsLeft job r) where
           states = λ t lt. ap (λ (x : ThreadModel). length x.state) (f.threads t) ∙ old.shape.states t lt;
         };
         threads = thread_sound;
-        pipes = λ q lt. subst (λ (l : List PipeModel). Rattle.never_cut.specs.Sound.IsSoundPipe job.program (record m { pipes = l }) q) (sym f.pipes) (old.pipes q lt);
-        timers = λ j lt. subst (λ (l : List TimerModel). Rattle.never_cut.specs.Sound.IsSoundTimer (record m { timers = l }) j) (sym f.timers) (old.timers j lt);
+        pipes = λ q lt.
+            let pipe = old.pipes q lt in
+            record {
+              room = subst (λ (l : List PipeModel). length (get_or l q no_pipe).items ≤ (pipe_def job.program q).places) (sym f.pipes) pipe.room;
+              values = λ k. subst (λ (l : List PipeModel). slice_index (get_or l q no_pipe).items k < 2 ^ 32) (sym f.pipes) (pipe.values k);
+            };
+        timers = λ j lt.
+            let timer = old.timers j lt in
+            record {
+              due = subst (λ (l : List TimerModel). ForSome (get_or l j no_timer).due (λ due. due < 2 ^ 48)) (sym f.timers) timer.due;
+              period = subst (λ (l : List TimerModel). (get_or l j no_timer).period < 2 ^ 32) (sym f.timers) timer.period;
+            };
         sources = source_sound;
         clock = let limit = left.finished.kept.clock.limit in omega (arith, limit, clock_word job r left);
         scan = subst (λ (o : Option ScanModel). ForSome o (λ scan. scan.time ≤ end.clock)) (sym f.scan)
@@ -195,8 +204,24 @@ module _ (job : JobParts) (r : LiveRecord) (left : IsLeft job r) where
         values = subst (All (λ (o : Output). o.value < 2 ^ 32)) (sym f.outputs) old.values;
       }
 
+  -- the counts of a thread don't depend on its queue's events
+  thread_lasts : (scanning : Bool) (x y : ThreadModel) → without_held y ≡ without_held x → LastsThread 0 scanning x → LastsThread 0 scanning y
+  thread_lasts scanning x y same h = record {
+    ended = subst (λ (z : ThreadModel). HasRoomFor 0 scanning (z.released + flag z.finished)) (sym same) h.ended;
+    served = subst (λ (z : ThreadModel). HasRoomFor 0 scanning z.served) (sym same) h.served;
+    trapped = subst (λ (z : ThreadModel). HasRoomFor 0 scanning z.trapped) (sym same) h.trapped;
+    expired = subst (λ (z : ThreadModel). HasRoomFor 0 scanning z.expired) (sym same) h.expired;
+  }
+
   pub lasts : Lasts 0 end
   lasts =
       let f = follows job r left in
       let old = left.ends.lasts in
-      subst (λ (z : ℕ × Option ScanModel × List PipeModel). HasRoomFor 0 (is_scanning (record m { scan = z.1 })) z.0 → Lasts 0 end) (λ j. (f.commits j, f.scan j, f.pipes j)) (λ h. ?) ?
+      record {
+        commits = subst (λ (z : ℕ × Option ScanModel). HasRoomFor 0 (is_scanning (record m { scan = z.1 })) z.0) (λ j. (sym f.commits j, sym f.scan j)) old.commits;
+        threads = λ t.
+            subst (λ (o : Option ScanModel). LastsThread 0 (is_scanning (record m { scan = o })) (thread_of end t)) (sym f.scan)
+            (thread_lasts (is_scanning m) (thread_of m t) (thread_of end t) (f.threads t) (old.threads t));
+        taken = λ q.
+            subst (λ (z : Option ScanModel × List PipeModel). HasRoomFor 0 (is_scanning (record m { scan = z.0 })) (get_or z.1 q no_pipe).taken) (λ j. (sym f.scan j, sym f.pipes j)) (old.taken q);
+      }

@@ -1,19 +1,15 @@
 -- The words at the end stand for the last state.
-use Rattle.std.proofs.Common.{◌≡◌, inl, inr, ℕ, zero, suc, ◌+◌, ◌-◌, ◌<◌, ◌≤◌, Bool, true, List, [], map, drop, length, slice_index, refl, sym, ap, ◌∙◌, subst, arith}
+use Rattle.std.proofs.Common.{◌≡◌, ℕ, ◌<◌, List, length, slice_index, sym, ap, ◌∙◌, subst, arith}
 use Rattle.std.proofs.lemmas.List.FromFn.{get_or-map-range_with_len}
 use Rattle.ink_base.specs.declared.event.Event.{Event}
-use Rattle.task_isa.specs.declared.program.Program.{Program}
-use Rattle.fram_words.specs.Places.{Memory, Code, Commit, Page, Log, Ring, Tail, Slot, Ack, Clock, Src}
-use Rattle.thread_state.specs.Pages.{place_in, committed}
-use Rattle.push_core.specs.Queue.{Queue, Source, StandsQueue, StandsSource, KeepsNumbers}
+use Rattle.fram_words.specs.Places.{Tail, Ack, Src}
+use Rattle.push_core.specs.Queue.{Queue, StandsQueue, StandsSource, KeepsNumbers}
 use Rattle.prog_check.specs.Lookup.{thread_def, source_thread}
-use Rattle.never_cut.specs.declared.model.Model.{Model}
-use Rattle.never_cut.specs.declared.thread_model.ThreadModel.{ThreadModel}
 use Rattle.never_cut.specs.declared.source_model.SourceModel.{SourceModel}
 use Rattle.never_cut.specs.State.{thread_of, source_of, queue_of, source_in, no_source}
-use Rattle.never_cut.specs.Stands.{Stands, StandsPrivate, StandsShared, slots_of}
+use Rattle.never_cut.specs.Stands.{Stands, StandsPrivate, slots_of}
 use Rattle.never_cut.specs.Images.{KeepTheirNumbers}
-use Rattle.never_cut.proofs.Privates.{SameBlocks, private_stays}
+use Rattle.never_cut.proofs.Privates.{private_stays}
 use Rattle.never_cut.proofs.Follows.{follow_privately, follow_released, follow_finished}
 use Rattle.job_parts.specs.Job.{JobParts}
 use Rattle.event_queue.specs.declared.view.Call.{Call}
@@ -22,24 +18,14 @@ use Rattle.event_queue.specs.Places as set
 use Rattle.event_queue.specs.Places.{word_at}
 use Rattle.event_queue.specs.Rule.{QueueKept}
 use Rattle.event_queue.specs.Views.{places_of}
-use Rattle.kernel_actor.specs.Kinds.{IsOwn}
+use Rattle.kernel_actor.proofs.Ending.{own_blocks}
 use Rattle.live_account.specs.declared.record.LiveRecord.{LiveRecord}
-use Rattle.live_account.specs.Kernel.{events_in, last_state}
+use Rattle.live_account.specs.Kernel.{events_in}
 use Rattle.live_account.specs.Queues.{words_at, source_state}
 use Rattle.live_words.specs.Ends.{IsLeft, queue_left, source_by}
 use Rattle.live_words.specs.Finals.{word_of}
 use Rattle.live_words.proofs.Follow.{calls, own_state, last, follows, held_last, clock_word}
 use Rattle.live_words.proofs.Queues.{stands_queue}
-
--- the kernel's own blocks are as they were
-own_blocks : (old new : Memory) → ((p : Rattle.fram_words.specs.Places.Place) → IsOwn p → new p ≡ old p) → SameBlocks old new
-own_blocks old new same = record {
-  code = λ x n. same (Code x n) tt;
-  commit_word = λ t. same (Commit t) tt;
-  committed_word = λ t w. ap (λ (c : ℕ). new (place_in t c w)) (same (Commit t) tt) ∙ same (place_in t (old (Commit t)) w) tt;
-  log = λ t n. same (Log t n) tt;
-  ring = λ q n. same (Ring q n) tt;
-}
 
 module _ (job : JobParts) (r : LiveRecord) (left : IsLeft job r) where
   -- each queue is the one that is left
@@ -64,8 +50,8 @@ module _ (job : JobParts) (r : LiveRecord) (left : IsLeft job r) where
   queue_stands : (t : ℕ) → t < length job.program.threads → StandsQueue (thread_def job.program t).queue (slots_of (words_at job.program r) t) (words_at job.program r (Tail t)) (queue_of (thread_of (last job r left) t))
   queue_stands t lt =
       let kept : QueueKept (thread_def job.program t).queue (λ n. word_at left.lay left.closed (set.Slot t n)) (words_at job.program r (Tail t)) (left.finished.entries t) (released_of t (calls job r left)) =
-          subst (λ (z : ℕ × ℕ × List Call). QueueKept z.0 (λ n. word_at left.lay left.closed (set.Slot t n)) z.1 (left.finished.entries t) (released_of t z.2))
-          (λ j. (left.is_lay.places t lt j, sym (left.words.tails t lt) j, left.finished.kernel_is j)) (left.finished.kept.queues t) in
+      subst (λ (z : ℕ × ℕ × List Call). QueueKept z.0 (λ n. word_at left.lay left.closed (set.Slot t n)) z.1 (left.finished.entries t) (released_of t z.2))
+      (λ j. (left.is_lay.places t lt j, sym (left.words.tails t lt) j, left.finished.kernel_is j)) (left.finished.kept.queues t) in
       let least : 0 < places_of left.lay t = left.finished.limits.some t (let size = left.is_lay.queues in omega arith) in
       let some_place : 0 < (thread_def job.program t).queue = omega (arith, least, left.is_lay.places t lt) in
       subst (StandsQueue (thread_def job.program t).queue (slots_of (words_at job.program r) t) (words_at job.program r (Tail t))) (sym (last_queue t lt))

@@ -1,6 +1,5 @@
 -- What the words of a live board stand for at the end.
 use Rattle.std.specs.Prelude.{◌≡◌, ℕ, ◌+◌, ◌-◌, ◌<◌, ◌≤◌, Bool, true, false, List, length, map, drop, slice_index}
-use Rattle.ink_base.specs.declared.event.Event.{Event}
 use Rattle.task_isa.specs.declared.program.Program.{Program}
 use Rattle.fram_words.specs.Held.{src_of}
 use Rattle.push_core.specs.Queue.{Queue, KeepsNumbers, StandsSource}

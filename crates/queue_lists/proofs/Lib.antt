@@ -1,4 +1,12 @@
+pub mod Elements
 pub mod Numbers
 pub mod Sources
 pub mod Tellings
+pub mod Queues
 pub mod Putting
+pub mod Sums
+pub mod Gathering
+pub mod Ends
+pub mod Placed
+pub mod Refusals
+pub mod Settling

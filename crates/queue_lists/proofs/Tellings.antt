@@ -1,7 +1,7 @@
 -- What a source's own lists tell of the events of its queue.
-use Rattle.std.proofs.Common.{◌≡◌, ◌⊎◌, inl, inr, ℕ, zero, suc, ◌+◌, ◌-◌, ◌/◌, ◌%◌, ◌^◌, ◌<◌, ◌≤◌, List, [], ◌∷◌, map, length, slice_index, refl, sym, ap, ◌∙◌, subst, arith}
+use Rattle.std.proofs.Common.{◌≡◌, ◌⊎◌, inl, inr, ℕ, ◌+◌, ◌-◌, ◌/◌, ◌%◌, ◌^◌, ◌<◌, ◌≤◌, List, map, length, slice_index, refl, sym, ap, ◌∙◌, subst, arith}
 use Rattle.std.proofs.lemmas.Bool.{cases_eq, cases_lt}
-use mathlib.Core.Option.{some, some-ne-none, some-injective}
+use mathlib.Core.Option.{some}
 use lib.ListN.{get_elem?}
 use Rattle.event_queue.specs.declared.view.Call.{Call}
 use Rattle.event_queue.specs.Calls.{Knows, Won, mine_of, won, knows_of}
@@ -12,22 +12,13 @@ use Rattle.irq_source.specs.declared.lists.Published.{Published}
 use Rattle.irq_source.specs.declared.lists.Declined.{Declined}
 use Rattle.irq_source.specs.Account.{IsDeclined, IsRefused, publication}
 use Rattle.irq_source.specs.Known.{settled_of}
+use Rattle.irq_source.proofs.Basics.{at_map}
 use Rattle.queue_lists.specs.Accounts.{KeepsSrc, source_with}
 use Rattle.queue_lists.specs.Tellings.{IsAccountOver, IsListed, HasReading, Parts, TellsReadings}
-
--- an element of a mapped list is that of one of the list
-unmapped : {A B : Type 0} (f : A → B) (xs : List A) (n : ℕ) (b : B) → get_elem? (map f xs) n ≡ some b → (a : A) × (get_elem? xs n ≡ some a) × (f a ≡ b)
-unmapped f [] n b at = absurd (some-ne-none b (sym at))
-unmapped f (x ∷ xs) zero b at = (x, refl, some-injective (f x) b at)
-unmapped f (x ∷ xs) (suc n) b at = unmapped f xs n b at
-
-mapped : {A B : Type 0} (f : A → B) (xs : List A) (n : ℕ) (a : A) → get_elem? xs n ≡ some a → get_elem? (map f xs) n ≡ some (f a)
-mapped f [] n a at = absurd (some-ne-none a (sym at))
-mapped f (x ∷ xs) zero a at = ap (λ z. some (f z)) (some-injective x a at)
-mapped f (x ∷ xs) (suc n) a at = mapped f xs n a at
+use Rattle.queue_lists.proofs.Elements.{unmapped}
 
 -- what is settled, by SRC and the number of publications
-settled_is : (number src : ℕ) (s : Knows) → KeepsSrc number src s → settled_of src s ≡ src / 2 ^ 32 + (length s.mine - src % 2 ^ 32)
+pub settled_is : (number src : ℕ) (s : Knows) → KeepsSrc number src s → settled_of src s ≡ src / 2 ^ 32 + (length s.mine - src % 2 ^ 32)
 settled_is number src s kept = elim (cases_eq (length s.mine) (src % 2 ^ 32)) [
   | inl all ↦ let last = kept.settled all in omega arith
   | inr less ↦ let one : length s.mine ≡ src % 2 ^ 32 + 1 = by_cases kept.least kept.most less in let last = (kept.behind one).0 in omega arith
@@ -84,7 +75,7 @@ module _ (ring : ℕ) {i tail released : ℕ} {entries : List Entry} {calls : Li
   covered : (k : ℕ) → k < (next_by src calls) → HasReading entries i k ⊎ IsRefused refused k
   covered k lt = elim (a.lists.covered k (omega (arith, next_is))) [
     | inl there ↦
-        let at : get_elem? (mine_of calls) there.0 ≡ some (publication there.1) = ap (λ (ms : List Won). get_elem? ms there.0) (sym published) ∙ mapped publication accepted there.0 there.1 there.2 in
+        let at : get_elem? (mine_of calls) there.0 ≡ some (publication there.1) = ap (λ (ms : List Won). get_elem? ms there.0) (sym published) ∙ at_map publication accepted there.0 there.1 there.2 in
         inl (there.1.position, record { source = i; count = there.0 % 64; reading = there.1.reading; value = there.1.value }, h.back there.0 (publication there.1) at, refl, there.3)
     | inr there ↦ inr there
   ]

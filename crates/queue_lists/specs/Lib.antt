@@ -1,3 +1,9 @@
 pub mod Accounts
 pub mod Tellings
 pub mod Puts
+pub mod Lists
+pub mod Rooms
+pub mod Gathers
+pub mod Ends
+pub mod Laws
+pub mod kept

@@ -1,5 +1,5 @@
 -- What an actor has done since a call of `run_charge` began.
-use Rattle.std.specs.Prelude.{◌≡◌, ℕ, ◌-◌, ◌/◌, ◌^◌, length}
+use Rattle.std.specs.Prelude.{◌≤◌, ◌≡◌, ℕ, ◌-◌, ◌/◌, ◌^◌, length}
 use Rattle.push_core.specs.Table.{first_row}
 use Rattle.irq_source.specs.Acting.{Acting, IsAccounted, IsSame, knows}
 use Rattle.irq_source.specs.Known.{Added, settled_of}

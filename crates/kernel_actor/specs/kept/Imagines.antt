@@ -1,12 +1,10 @@
 -- The board that a kernel can imagine from its own words and from what its seat has seen.
-use Rattle.std.specs.Prelude.{◌≡◌, ℕ, ◌<◌, true, List, [], ◌∷◌, length, Option, Some, None}
-use Rattle.ink_base.specs.declared.event.Event.{Event}
+use Rattle.std.specs.Prelude.{◌≡◌, ℕ, ◌<◌, true, List, length}
 use Rattle.task_isa.specs.declared.program.Program.{Program}
 use Rattle.fram_words.specs.Places.{Place, Memory}
 use Rattle.fram_words.specs.Shape.{memory_of}
 use Rattle.ink_layout.specs.Shape.{shape_of, words_of}
 use Rattle.ink_layout.specs.declared.slot_at.SlotAt.{SlotAt}
-use Rattle.push_core.specs.Queue.{event_word}
 use Rattle.never_cut.specs.declared.model.Model.{Model}
 use Rattle.never_cut.specs.State.{thread_of}
 use Rattle.never_cut.specs.Entries.{Readings}
@@ -16,13 +14,9 @@ use Rattle.kernel_core.specs.declared.kernel.Kernel.{Kernel}
 use Rattle.kernel_core.specs.kept.Holds.{KernelHolds}
 use Rattle.event_queue.specs.declared.view.Call.{Call}
 use Rattle.event_queue.specs.Calls.{released_of, seen_of, acked_of, clock_of}
+use Rattle.kernel_actor.specs.Held.{IsHeld}
 use Rattle.kernel_actor.specs.Kinds.{IsOwn, kind_of}
 use Rattle.kernel_actor.specs.declared.kind.Kind.TheVariants.{Release}
-
--- a queue is imagined to hold the event that was seen next, and no other
-abbrev pub IsHeld : Option ℕ → ℕ → List Event → Type 0
-IsHeld None r held = held ≡ []
-IsHeld (Some w) r held = (e : Event) × (held ≡ e ∷ []) × (w ≡ event_word r e)
 
 -- an event that is about to be released is acknowledged
 abbrev pub IsAcked : Kernel → List Call → Type 0

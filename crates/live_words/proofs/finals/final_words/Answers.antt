@@ -1,5 +1,5 @@
 -- Both parts are within the words, and the words are final.
-use Rattle.std.proofs.Common.{◌≡◌, ◌+◌, ◌≤◌, length, arith, sym, subst, ap, List, ℕ, ◌∙◌}
+use Rattle.std.proofs.Common.{length, arith, subst, ap, List, ℕ}
 use Rattle.live_words.specs.Puts.{IsPut}
 use Rattle.live_words.proofs.Joins.{private_is, srcs_are_at, board_words, are_final}
 use Rattle.live_words.proofs.finals.final_words.Goals as goal

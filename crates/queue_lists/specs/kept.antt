@@ -1,0 +1,2 @@
+-- What only the proof keeps.
+pub mod Lists
