@@ -8,7 +8,8 @@ _ink_board_flags() {
   case $1 in
     '') echo --seed --journal --json --bounds --image ;;
     run) echo --journal --json --bounds --image ;;
-    print | sweep | audit | radio) ;;
+    print | sweep | audit | radio | plan) ;;
+    station) echo --journal --json ;;
     soak) echo --seed --journal --json --bounds ;;
   esac
 }
@@ -16,7 +17,7 @@ _ink_board_flags() {
 # The modes that take all of these flags.
 _ink_board_modes() {
   local mode flag
-  for mode in run print sweep audit radio soak; do
+  for mode in run print sweep audit radio station plan soak; do
     for flag in "$@"; do
       [[ " $(_ink_board_flags "$mode") " == *" $flag "* ]] || continue 2
     done
@@ -49,7 +50,7 @@ _ink_board() {
     ((index == COMP_CWORD)) && continue
     case ${COMP_WORDS[index]} in
       '<' | '>' | '>>' | '>|' | '<>') ((index++)) ;;
-      run | print | sweep | audit | radio | soak) mode=${COMP_WORDS[index]} ;;
+      run | print | sweep | audit | radio | station | plan | soak) mode=${COMP_WORDS[index]} ;;
       --seed=*) used+=(--seed) ;;
       --journal | --json | --bounds | --image | --seed) used+=("${COMP_WORDS[index]}") ;;
     esac

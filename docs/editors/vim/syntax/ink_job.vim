@@ -18,7 +18,7 @@ syn keyword inkJobTodo TODO FIXME XXX contained
 
 " Headers of sections; another line that begins with a bracket is none
 syn match inkJobNoHeader /^\s*\zs\[[^#]*/
-syn match inkJobHeader /^\s*\zs\[\%(program\|sensors\|power\|image[12]\|radio\)\]\ze\s*\%(#\|$\)/
+syn match inkJobHeader /^\s*\zs\[\%(program\|sensors\|power\|image[12]\|radio\|board\)\]\ze\s*\%(#\|$\)/
 
 " A claim, which has words of no job: it ends the text
 syn region inkJobClaim matchgroup=inkJobHeader start=/^\s*\zs\[claim\]\ze\s*\%(#\|$\)/ end=/\%$/ contains=NONE
