@@ -31,11 +31,11 @@ readings_for job t i = if source_thread job.program i == t then readings_of job.
 abbrev pub readings_into : JobParts → (t : ℕ) → ℕ
 readings_into job t = sum_below (λ i. length (readings_for job t i)) (length job.program.sources)
 
--- how often a reading of source i can be refused: each once, and once more for each charge, since a cut lets it be refused again
+-- how many refusals source i can have: one for each reading, and one for each charge, since a cut lets a reading be refused again
 abbrev pub refusals_from : JobParts → (i : ℕ) → ℕ
 refusals_from job i = length (readings_of job.readings i) + length job.charges
 
--- the refusals of all sources
+-- and all sources
 abbrev pub refusals_room : JobParts → ℕ
 refusals_room job = sum_below (refusals_from job) (length job.program.sources)
 

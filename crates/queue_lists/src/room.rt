@@ -133,7 +133,7 @@ fn readings_into(job: &Job, thread: ThreadId) -> usize
     number
 }
 
-// How often all sources can be refused a reading.
+// How many refusals all sources can have.
 fn refusals_room(job: &Job) -> usize
     ensures { result ≡ refusals_room job.now }
 {
