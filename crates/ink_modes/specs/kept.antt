@@ -2,3 +2,4 @@
 pub mod Asked
 pub mod Fits
 pub mod Script
+pub mod Told

@@ -23,9 +23,13 @@ abbrev pub Makes : Given → Record → Type 0
 Makes (Boards jobs) (Station records) = AllZip IsRunOf jobs.items records
 Makes _ _ = ⊥
 
+-- a text behind the number of its board
+abbrev pub numbered : ℕ → List ℕ → List ℕ
+numbered number text = codes "board " ++ decimal number ++ codes "\n" ++ text
+
 -- the number of a board, and the text of its run
 abbrev pub board_text : Flags → ℕ → RunRecord → List ℕ
-board_text flags number r = codes "board " ++ decimal number ++ codes "\n" ++ run_text_of r flags
+board_text flags number r = numbered number (run_text_of r flags)
 
 -- the boards in order, the first of which has this number
 abbrev pub boards_text : Flags → ℕ → List RunRecord → List ℕ

@@ -1,12 +1,14 @@
 //! `station`: the boards of the jobs on the source are run at once, and the text of each run is written, in the order of the jobs.
 
-ghost use Rattle.std.specs.Prelude.{◌≡◌, ◌≤◌, ◌++◌, length, IfOk, OnOk};
+ghost use Rattle.std.specs.Prelude.{◌≡◌, ◌<◌, ◌≤◌, ◌++◌, length, slice_index_or, IfOk, IsOk, OnOk};
+ghost use Rattle.kernel_core.specs.declared.run_record.RunRecord.{RunRecord};
 ghost use Rattle.std.specs.List.{All};
 ghost use Rattle.ink_image.specs.Whole.{Answers};
 ghost use Rattle.ink_modes.specs.Given.{HasBoards};
-ghost use Rattle.ink_modes.specs.Run.{IsRunOf};
-ghost use Rattle.ink_modes.specs.modes.Station.{Gives, Makes, board_text, boards_text};
+ghost use Rattle.ink_modes.specs.Run.{IsRunOf, run_text_of};
+ghost use Rattle.ink_modes.specs.modes.Station.{Gives, Makes, boards_text, numbered};
 ghost use Rattle.ink_modes.specs.modes.Station.{text as text_of};
+ghost use Rattle.ink_modes.specs.kept.Told.{AreTold};
 
 use crate::command::Allowed;
 use crate::finish::Record;
@@ -21,7 +23,7 @@ use ink_text::put_count;
 use kernel_core::RunRecord;
 use sqlite_items::Items;
 use std::alloc::Global;
-use std::thread::Threads;
+use std::thread::{Threads, map_indices};
 
 /// It may show the journal and JSON.
 pub const ALLOWED: Allowed = Allowed {
@@ -54,7 +56,7 @@ pub fn make<R: Threads + Sync>(
     ensures text { IfOk result (λ made. made.text.items ≡ text_of flags given made.record) }
 {
     let records = Items::from_vec(station(alloc, runtime, given.into_boards())?);
-    let text = boards_text(alloc, records.as_slice(), flags)?;
+    let text = boards_text(alloc, runtime, records.as_slice(), flags)?;
     Ok(Made {
         record: Record::Station(records),
         text,
@@ -62,31 +64,73 @@ pub fn make<R: Threads + Sync>(
 }
 
 // The texts of boards, in order, numbered from 0 on.
-fn boards_text(alloc: Global, records: &[RunRecord], flags: Flags) -> Result<Vec<u8>, NoMemory>
+fn boards_text<R: Threads + Sync>(
+    alloc: Global,
+    runtime: &R,
+    records: &[RunRecord],
+    flags: Flags,
+) -> Result<Vec<u8>, NoMemory>
     requires { All (λ r. IsRunOf r.job r) records.now }
     ensures { IfOk result (λ text. text.items ≡ boards_text flags 0 records.now) }
 {
+    let told = told_at_once(alloc, runtime, records, flags)?;
     let mut text = Vec::new(alloc);
-    for number in 0..records.len() {
-        put_board(alloc, &mut text, number, &records[number], flags)?;
+    for number in 0..told.len() {
+        put_board(&mut text, number, &told[number])?;
     }
     Ok(text)
 }
 
-// Appends the number of a board, and the text of its run.
-fn put_board(
+// The texts of the runs, which are made at once; none of a run where memory was refused for it.
+fn told_at_once<R: Threads + Sync>(
     alloc: Global,
+    runtime: &R,
+    records: &[RunRecord],
+    flags: Flags,
+) -> Result<Vec<Result<Vec<u8>, NoMemory>>, NoMemory>
+    requires { All (λ r. IsRunOf r.job r) records.now }
+    ensures number { IfOk result (λ told. length told.items ≡ length records.now) }
+    ensures each { IfOk result (λ told. AreTold flags records.now told.items) }
+{
+    let told = map_indices(
+        runtime,
+        alloc,
+        records.len(),
+        &|number| { told_of(alloc, records, number, flags) },
+    )?;
+    Ok(told)
+}
+
+// The text of one of the runs.
+fn told_of(
+    alloc: Global,
+    records: &[RunRecord],
+    number: usize,
+    flags: Flags,
+) -> Result<Vec<u8>, NoMemory>
+    requires known { number < length records.now }
+    requires runs { All (λ r. IsRunOf r.job r) records.now }
+    ensures { IfOk result (λ told. (d : RunRecord) → told.items ≡ run_text_of (slice_index_or records.now number d) flags) }
+{
+    report(alloc, &records[number], flags)
+}
+
+// Appends the number of a board and the text of its run, if there was memory for it.
+fn put_board(
     text: &mut Vec<u8>,
     number: usize,
-    run: &RunRecord,
-    flags: Flags,
+    told: &Result<Vec<u8>, NoMemory>,
 ) -> Result<(), NoMemory>
-    requires { IsRunOf run.now.job run.now }
-    ensures { OnOk result (text.new.items ≡ text.old.items ++ board_text flags number run.now) }
+    ensures text { OnOk result (IfOk told.now (λ run. text.new.items ≡ text.old.items ++ numbered number run.items)) }
+    ensures made { OnOk result (IsOk told.now) }
 {
-    put_count(text, b"board ", number as u64)?;
-    text.push(b'\n')?;
-    let told = report(alloc, run, flags)?;
-    text.extend_from_slice(told.as_slice())?;
-    Ok(())
+    match told {
+        Ok(run) => {
+            put_count(text, b"board ", number as u64)?;
+            text.push(b'\n')?;
+            text.extend_from_slice(run.as_slice())?;
+            Ok(())
+        }
+        Err(NoMemory) => Err(NoMemory),
+    }
 }

@@ -10,7 +10,7 @@ pub boards_text-requires : goal.boards_text-requires
 boards_text-requires g c =
     let jobs = c.into_boards.result.items in
     let records = c.in_ok-station.field-0.items in
-    subst (All IsOwnRun) (sym (c.as_slice.ensures ∙ c.from_vec-records.ensures)) (own_runs jobs records (runs_of jobs records c.in_ok-station.ensures))
+    (c.type_bounds.sync-R, subst (All IsOwnRun) (sym (c.as_slice.ensures ∙ c.from_vec-records.ensures)) (own_runs jobs records (runs_of jobs records c.in_ok-station.ensures)))
 
 pub returns-clause-record : goal.returns-clause-record
 returns-clause-record g c =
