@@ -1,0 +1,15 @@
+pub mod Budgets
+pub mod Slices
+pub mod Sources
+pub mod Changes
+pub mod Calls
+pub mod Releases
+pub mod Dates
+pub mod Kernels
+pub mod Begins
+pub mod Ticks
+pub mod Boards
+pub mod Scans
+pub mod Finishing
+pub mod Firsts
+pub mod Leaving
