@@ -31,10 +31,12 @@ impl Holds {
         }
     }
 
-    // Holds until an actor has told of one publication or commit.
+    // Holds until an actor has told of one publication or commit. Once a hold has run out, none holds any more.
     fn hold(&self, awaited: &AtomicU64) {
         for _ in 0..TURNS_HELD {
-            if awaited.load(Ordering::SeqCst) > 0 {
+            let told = awaited.load(Ordering::SeqCst);
+            let run_out = self.run_out.load(Ordering::SeqCst);
+            if told > 0 || run_out > 0 {
                 return;
             }
         }
